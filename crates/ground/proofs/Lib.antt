@@ -1,0 +1,3 @@
+-- Laws that every layer's proofs share.
+pub mod Eight
+pub mod Tests

@@ -1,0 +1,3 @@
+-- Definitions that every layer's specs/ share.
+pub mod Eight
+pub mod Pick

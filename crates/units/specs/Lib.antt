@@ -1,0 +1,2 @@
+-- What the units' contracts cite.
+pub mod Units
