@@ -1,3 +1,4 @@
 -- Definitions that every layer's specs/ share.
 pub mod Eight
 pub mod Pick
+pub mod Table
