@@ -1,6 +1,7 @@
 // Bit times, octet times and pause quanta, and the named conversions between them. Nothing in the product adds a count of one kind
 // to a count of another but through these. Where a count is more than its type holds, the answer is the largest that it holds.
 ghost use mathlib.Core.Path.{_≡_};
+ghost use Prim.Native.Nat.{_+_};
 ghost use Rattle.units.specs.Units.{bitsOfOctets, bitsOfQuanta, octetsOfBits, octetsOfQuanta, quantaOfBits, within64};
 
 // A count of bit times.
@@ -11,6 +12,13 @@ pub struct OctetTimes(pub u64);
 
 // A count of pause quanta, 512 bit times each.
 pub struct Quanta(pub u64);
+
+// The sum of two counts of one kind.
+pub fn sum(a: u64, b: u64) -> u64
+    ensures { λ r. ⌜ r ≡ within64 (a + b) ⌝ }
+{
+    if a <= u64::MAX - b { a + b } else { u64::MAX }
+}
 
 // The bit times of a count of octet times.
 pub fn bits_of_octets(o: OctetTimes) -> BitTimes

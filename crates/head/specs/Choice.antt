@@ -1,0 +1,58 @@
+-- Document 01, "Timers and choice at A": the choice of the class to send from next.
+use Prim.Native.Nat.{ℕ, zero, suc}
+use mathlib.Core.Bool.{Bool, false, not, _&&_, _||_}
+use mathlib.Core.List.{List, [], _∷_}
+use lib.ListN.{getD}
+use lib.Dec.{eqb, ltb}
+use Rattle.ground.specs.Pick.{pick}
+use Rattle.ground.specs.Eight.{eight}
+use Rattle.head.specs.declared.Choice.{Choice}
+use Rattle.head.specs.declared.Choice.the-variants.{Class, Nothing, Refused}
+
+-- document 01's number of each answer, 0 where it is not refused; the value of a class is the class, and no other answer has one
+abbrev pub numberOf : Choice → ℕ
+numberOf (Class c) = 0
+numberOf Nothing = 0
+numberOf (Refused number) = number
+
+-- one of the marks is true
+abbrev pub anyOf : List Bool → Bool
+anyOf [] = false
+anyOf (mark ∷ marks) = mark || anyOf marks
+
+-- a test holds of some n from 0 to 7
+unfoldable pub some : (ℕ → Bool) → Bool
+some test = anyOf (eight test)
+
+-- "a priority 0 to 7, or 8 for an empty queue": the head of class c is present
+abbrev pub isPresent : List ℕ → ℕ → Bool
+isPresent heads c = ltb (getD heads c 0) 8
+
+-- one of eight entries is above a limit
+abbrev pub someAbove : ℕ → List ℕ → Bool
+someAbove limit entries = some (λ n. ltb limit (getD entries n 0))
+
+-- "present head in a class its map doesn't give"
+abbrev pub isMisplaced : List ℕ → List ℕ → ℕ → Bool
+isMisplaced heads map c = isPresent heads c && not (eqb (getD map (getD heads c 0) 0) c)
+
+-- "Order: .. Choice 22, 20, 21": "map entry above 7", "head above 8", "present head in a class its map doesn't give"
+unfoldable pub refusal : List ℕ → List ℕ → ℕ
+refusal heads map =
+    pick (someAbove 7 map) 22
+    (pick (someAbove 8 heads) 20
+    (pick (some (isMisplaced heads map)) 21
+    0))
+
+-- "present and not paused", by the paused marks of the priorities
+abbrev pub mayGo : List ℕ → List Bool → ℕ → Bool
+mayGo heads paused c = isPresent heads c && not (getD paused (getD heads c 0) false)
+
+-- the highest class below a bound of which a test holds, "or none"
+unfoldable pub highest : (ℕ → Bool) → ℕ → Choice
+highest test zero = Nothing
+highest test (suc c) = pick (test c) (Class c) (highest test c)
+
+-- "The answer is the highest class whose head is present and not paused, or none."
+unfoldable pub choice : List ℕ → List ℕ → List Bool → Choice
+choice heads map paused = pick (eqb (refusal heads map) 0) (highest (mayGo heads paused) 8) (Refused (refusal heads map))

@@ -1,0 +1,2 @@
+-- What the contracts of the program's words cite.
+pub mod Words

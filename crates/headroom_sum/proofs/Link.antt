@@ -1,0 +1,26 @@
+-- Laws of the link's bits: all that any other file knows of them. For link_bits and its callers. Assumes nothing.
+use Prim.Native.Nat.{ℕ, _+_, _-_, _*_, _/_, _≤_, _<_}
+use native.Mathlib.Nat.{mul-le-mul, div-lt-iff-lt-mul, lt-div-mul-add, div-mul-le-self}
+use native.Mathlib.Omega.{arith}
+use Rattle.headroom_sum.specs.Headroom.{roundedUp, linkBits}
+
+-- a quotient rounded up is the least that covers the count
+pub rounded-up : (count parts : ℕ) → 0 < parts → (count ≤ roundedUp count parts * parts) × (roundedUp count parts * parts < count + parts)
+rounded-up count parts h =
+    let over : count + (parts - 1) < roundedUp count parts * parts + parts = lt-div-mul-add h
+    in let under : roundedUp count parts * parts ≤ count + (parts - 1) = div-mul-le-self (count + (parts - 1)) parts
+    in (omega arith, omega arith)
+
+module _ (metres rate percentage : ℕ) (m : metres ≤ 100000) (r : rate ≤ 100000) (p : 40 ≤ percentage) where
+  -- the product under the quotient is far below what 64 bits hold
+  pub product-small : metres * rate ≤ 10000000000
+  product-small = mul-le-mul m r
+
+  -- the link's bits at the inputs that 10, 11 and 12 let through: no more than a path may have
+  pub link-small : linkBits metres rate percentage ≤ 134217728
+  unfolding linkBits
+  link-small =
+      let product : metres * rate ≤ 10000000000 = product-small
+      in let scaled : metres * rate * 100 + (percentage * 300 - 1) < 134217729 * (percentage * 300) = omega arith
+      in let below : (metres * rate * 100 + (percentage * 300 - 1)) / (percentage * 300) < 134217729 = div-lt-iff-lt-mul {k = percentage * 300} (omega arith) .1 scaled
+      in omega arith

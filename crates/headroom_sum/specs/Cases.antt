@@ -1,0 +1,58 @@
+-- The cases of document 01 that are marked P and belong to the headroom, as rows of tests to be computed; a table above collects them.
+use Prim.Native.Nat.{ℕ}
+use mathlib.Core.Bool.{Bool, true, false}
+use mathlib.Core.List.{List, [], _∷_}
+use lib.Dec.{eqb}
+use Rattle.ground.specs.Pick.{pick}
+use Rattle.headroom_sum.specs.Headroom.{linkBits}
+use Rattle.headroom_sum.specs.Sum.{bits, summed}
+use Rattle.headroom_sum.specs.TableN1.{stackAnswer}
+use Rattle.headroom_sum.specs.declared.Inputs.{Inputs}
+use Rattle.headroom_sum.specs.declared.Items.{Items}
+use Rattle.headroom_sum.specs.declared.Summed.{Summed}
+use Rattle.headroom_sum.specs.declared.table.Stacked.{Stacked}
+
+-- "(004) 10GBASE-T with MAC/RS and two XAUI: each direction 18,944; generation 200, M 2000, halt 6,144", over 100 m at 60 %
+abbrev pub example004 : Inputs
+example004 =
+    record {
+      rate = 10000;
+      metres = 100;
+      percentage = 60;
+      largest = 2000;
+      generation = bits 200;
+      «b_transmit» = bits 18944;
+      «b_receive» = bits 18944;
+      «a_transmit» = bits 18944;
+      «a_receive» = bits 18944;
+      halt = bits 6144;
+    }
+
+-- an item of a whole sum; 0 of a refusal
+abbrev pub itemOf : (Items → ℕ) → Summed → ℕ
+itemOf item (Summed.Whole whole) = item whole
+itemOf item (Summed.Refused number) = 0
+
+-- a stack has these two delays
+abbrev pub hasDelays : ℕ → ℕ → Stacked → Bool
+hasDelays transmit receive (Stacked.Delays t r) = pick (eqb (t .0) transmit) (eqb (r .0) receive) false
+hasDelays transmit receive (Stacked.Refused number) = false
+hasDelays transmit receive Stacked.Unknown = false
+
+unfoldable pub headroomCases : List Bool
+headroomCases =
+    -- "P link 100 m, 10,000, 60 %: 5,556 bits."
+    eqb (linkBits 100 10000 60) 5556
+    -- "P 1 m: 56."
+    ∷ eqb (linkBits 1 10000 60) 56
+    -- "P 0 m: 0."
+    ∷ eqb (linkBits 0 10000 60) 0
+    -- "P (004) 10GBASE-T with MAC/RS and two XAUI: each direction 18,944"
+    ∷ hasDelays 18944 18944 (stackAnswer (7 ∷ 0 ∷ 1 ∷ 1 ∷ []))
+    -- "generation 200, M 2000, halt 6,144: 126,224 bits"
+    ∷ eqb (itemOf (λ (s : Items). s .total .0) (summed example004)) 126224
+    -- "one-way time 8,328"
+    ∷ eqb (itemOf (λ (s : Items). s .room .«one_way» .0) (summed example004)) 8328
+    -- "headroom 15,779 octets"
+    ∷ eqb (itemOf (λ (s : Items). s .room .headroom .0) (summed example004)) 15779
+    ∷ []

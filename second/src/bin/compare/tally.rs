@@ -1,0 +1,128 @@
+//! Counts what the runs were and what they reached.
+
+use std::collections::BTreeMap;
+
+use second::bench::{run_watched, Bench, Record, Report};
+use second::PRIORITIES;
+
+use crate::bench_inputs::{BenchKind, REACHABLE_REFUSALS};
+use crate::vector_inputs::CaseKind;
+
+#[derive(Default)]
+pub struct Tally {
+    by_kind: BTreeMap<&'static str, u64>,
+    by_refusal: BTreeMap<u8, u64>,
+    vector_files: u64,
+    paused: u64,
+    refreshed: u64,
+    resumed: u64,
+    /// Runs with a pause, then a refresh, then a resume.
+    all_three: u64,
+    /// The largest worst, in thousandths of its headroom.
+    highest_worst: u64,
+    /// Runs in which document 01's promise fails: a frame dropped, or worst above the headroom.
+    pub promise_broken: u64,
+    pub differed: u64,
+}
+
+/// What one run went through.
+#[derive(Default)]
+struct Seen {
+    timers: [u16; PRIORITIES],
+    was_due: bool,
+    paused: bool,
+    refreshed: bool,
+    resumed: bool,
+    headroom: u64,
+}
+
+impl Seen {
+    fn see(&mut self, record: Record, bench: &Bench) {
+        let timers = bench.head().timers;
+        let is_due = bench.recorder().due_since().is_some();
+        match record {
+            Record::Wait { .. } => self.refreshed |= self.paused && is_due && !self.was_due,
+            Record::PfcTakesEffect => {
+                let pairs = || self.timers.iter().zip(timers);
+                let pauses = pairs().any(|(&before, after)| before == 0 && after > 0);
+                let resumes = pairs().any(|(&before, after)| before > 0 && after == 0);
+                self.paused |= pauses;
+                self.resumed |= resumes;
+            }
+            _ => (),
+        }
+        self.timers = timers;
+        self.was_due = is_due;
+        self.headroom = bench.delays().headroom().octets_carried();
+    }
+}
+
+impl Tally {
+    /// Counts a bench input; the answer is this library's report.
+    pub fn count_bench(&mut self, kind: BenchKind, input: &[u8]) -> Report {
+        let mut seen = Seen::default();
+        let report = run_watched(input, |record, bench| seen.see(record, bench));
+        *self.by_kind.entry(kind.text()).or_default() += 1;
+        if let Some(refusal) = report.refusal {
+            *self.by_refusal.entry(refusal.number()).or_default() += 1;
+        }
+        self.paused += u64::from(seen.paused);
+        self.refreshed += u64::from(seen.refreshed);
+        self.resumed += u64::from(seen.resumed);
+        self.all_three += u64::from(seen.refreshed && seen.resumed);
+        self.count_worst(&report, seen.headroom);
+        report
+    }
+
+    fn count_worst(&mut self, report: &Report, headroom: u64) {
+        let mut broken = false;
+        for line in &report.lines {
+            broken |= line.dropped > 0 || line.worst > headroom;
+            // No headroom is known where no record was accepted.
+            let share = (line.worst * 1_000).checked_div(headroom).unwrap_or(0);
+            self.highest_worst = self.highest_worst.max(share);
+        }
+        self.promise_broken += u64::from(broken);
+    }
+
+    pub fn count_vectors(&mut self, kinds: &[CaseKind]) {
+        self.vector_files += 1;
+        for kind in kinds {
+            *self.by_kind.entry(kind.text()).or_default() += 1;
+        }
+    }
+
+    pub fn print(&self) {
+        println!("inputs and cases by kind:");
+        for (kind, count) in &self.by_kind {
+            println!("  {kind}: {count}");
+        }
+        println!("vector files: {}", self.vector_files);
+        println!("bench runs that reached each refusal:");
+        for number in REACHABLE_REFUSALS {
+            println!("  {number}: {}", self.reached(number));
+        }
+        let others = self.by_refusal.keys();
+        for number in others.filter(|number| !REACHABLE_REFUSALS.contains(number)) {
+            println!("  {number} (not expected): {}", self.reached(*number));
+        }
+        println!("bench runs with a pause: {}", self.paused);
+        println!("bench runs with a resume: {}", self.resumed);
+        println!(
+            "bench runs with a refresh after a pause: {}",
+            self.refreshed
+        );
+        println!(
+            "bench runs with pause, refresh and resume: {}",
+            self.all_three
+        );
+        let (whole, tenth) = (self.highest_worst / 10, self.highest_worst % 10);
+        println!("highest worst: {whole}.{tenth} % of its headroom");
+        println!("runs that break the promise: {}", self.promise_broken);
+        println!("differed: {}", self.differed);
+    }
+
+    fn reached(&self, number: u8) -> u64 {
+        self.by_refusal.get(&number).copied().unwrap_or(0)
+    }
+}

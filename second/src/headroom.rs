@@ -1,0 +1,226 @@
+//! The headroom sum of Annex N as document 01 states it, and Table N-1.
+
+use crate::frame::try_largest_frame;
+use crate::refusal::{refuse_if, Refusal};
+use crate::slips::{slipped, Slip};
+use crate::units::{BitTimes, OctetTimes, Quanta};
+
+/// Octets that a frame holds the wire for besides its own: preamble, start and gap.
+const WIRE_OVERHEAD: u64 = 20;
+
+/// The wire time of a PFC frame: 60 octets, 4 of FCS, 20 around them.
+pub const PFC_WIRE_TIME: OctetTimes = OctetTimes(84);
+
+/// Light is taken as 300 metres per microsecond.
+const LIGHT_METRES_PER_MICROSECOND: u64 = 300;
+
+const LONGEST_LINK_METRES: u64 = 100_000;
+const LONGEST_DELAY: BitTimes = BitTimes(1_048_576);
+const LONGEST_PATH: BitTimes = BitTimes(134_217_728);
+
+/// Each rate in Mb/s with its halt delay limit, 614.4 ns.
+const HALT_LIMITS: [(u64, Quanta); 3] = [
+    (10_000, Quanta(12)),
+    (40_000, Quanta(48)),
+    (100_000, Quanta(120)),
+];
+
+/// How long a frame of this length (octets with FCS) holds the wire.
+pub fn wire_time(length: u64) -> OctetTimes {
+    OctetTimes(length + WIRE_OVERHEAD)
+}
+
+/// The inputs of the headroom sum.
+#[derive(Clone, Copy, Debug)]
+pub struct Inputs {
+    /// Mb/s.
+    pub rate: u64,
+    pub metres: u64,
+    /// Signal speed as a percentage of light's.
+    pub percentage: u64,
+    /// M, octets with FCS.
+    pub largest_frame: u64,
+    pub generation: BitTimes,
+    pub b_transmit: BitTimes,
+    pub b_receive: BitTimes,
+    pub a_transmit: BitTimes,
+    pub a_receive: BitTimes,
+    pub halt: BitTimes,
+}
+
+/// The delays of one link in octet times, each rounded up apart.
+#[derive(Clone, Copy, Debug, PartialEq, Eq)]
+pub struct Delays {
+    /// G.
+    pub generation: OctetTimes,
+    /// W, the wire time of the largest frame.
+    pub wire: OctetTimes,
+    /// P.
+    pub request_path: OctetTimes,
+    /// D.
+    pub data_path: OctetTimes,
+}
+
+impl Delays {
+    pub fn new(
+        largest_frame: u64,
+        generation: BitTimes,
+        request_path: BitTimes,
+        data_path: BitTimes,
+    ) -> Self {
+        Delays {
+            generation: generation.rounded_up_to_octet_times(),
+            wire: wire_time(largest_frame),
+            request_path: request_path.rounded_up_to_octet_times(),
+            data_path: data_path.rounded_up_to_octet_times(),
+        }
+    }
+
+    pub fn one_way(&self) -> OctetTimes {
+        self.generation + self.wire + PFC_WIRE_TIME + self.request_path
+    }
+
+    pub fn headroom(&self) -> OctetTimes {
+        self.one_way() + self.wire + self.data_path
+    }
+}
+
+/// The answer of the headroom sum.
+#[derive(Clone, Copy, Debug, PartialEq, Eq)]
+pub struct Headroom {
+    pub link: BitTimes,
+    pub request_path: BitTimes,
+    pub data_path: BitTimes,
+    pub total: BitTimes,
+    pub delays: Delays,
+}
+
+/// The headroom sum, in bits and in octet times.
+pub fn calculate(inputs: &Inputs) -> Result<Headroom, Refusal> {
+    let halt_limit = halt_limit(inputs.rate).ok_or(Refusal::Rate)?;
+    refuse_if(inputs.metres > LONGEST_LINK_METRES, Refusal::Metres)?;
+    refuse_if(
+        !(40..=100).contains(&inputs.percentage),
+        Refusal::Percentage,
+    )?;
+    try_largest_frame(inputs.largest_frame)?;
+    for delay in station_delays(inputs) {
+        try_delay(delay)?;
+    }
+    let link = link_bits(inputs.metres, inputs.rate, inputs.percentage);
+    let request_path = try_path([inputs.b_transmit, link, inputs.a_receive, inputs.halt])?;
+    let data_path = try_path([inputs.a_transmit, link, inputs.b_receive])?;
+    refuse_if(inputs.halt > halt_limit, Refusal::HaltTooLong)?;
+    Ok(sum(inputs, link, request_path, data_path))
+}
+
+/// The sum itself, once every input is known to be within its limit.
+fn sum(inputs: &Inputs, link: BitTimes, request_path: BitTimes, data_path: BitTimes) -> Headroom {
+    let mut delays = Delays::new(
+        inputs.largest_frame,
+        inputs.generation,
+        request_path,
+        data_path,
+    );
+    let wire_bits = delays.wire.as_bit_times();
+    let total = inputs.generation
+        + wire_bits
+        + PFC_WIRE_TIME.as_bit_times()
+        + request_path
+        + wire_bits
+        + data_path;
+    if slipped(Slip::RoundedTogether) {
+        let rest = delays.one_way() + delays.wire;
+        delays.data_path = OctetTimes(total.rounded_up_to_octet_times().0 - rest.0);
+    }
+    Headroom {
+        link,
+        request_path,
+        data_path,
+        total,
+        delays,
+    }
+}
+
+fn halt_limit(rate: u64) -> Option<BitTimes> {
+    let (_, quanta) = HALT_LIMITS.iter().find(|(of_rate, _)| *of_rate == rate)?;
+    Some(quanta.as_bit_times())
+}
+
+/// What refusal 14 tries one by one; the halt delay is no station delay.
+fn station_delays(inputs: &Inputs) -> [BitTimes; 6] {
+    let halt = if slipped(Slip::HaltAsStationDelay) {
+        inputs.halt
+    } else {
+        BitTimes(0)
+    };
+    [
+        inputs.generation,
+        inputs.b_transmit,
+        inputs.b_receive,
+        inputs.a_transmit,
+        inputs.a_receive,
+        halt,
+    ]
+}
+
+/// Refusal 14 for a generation or station delay.
+pub fn try_delay(delay: BitTimes) -> Result<(), Refusal> {
+    refuse_if(delay > LONGEST_DELAY, Refusal::DelayTooLong)
+}
+
+/// Refusal 14 for a path given whole.
+pub fn try_path_bits(path: BitTimes) -> Result<(), Refusal> {
+    refuse_if(path > LONGEST_PATH, Refusal::DelayTooLong)
+}
+
+/// A path's sum; one too wide for the type is above the limit as well.
+fn try_path<const N: usize>(parts: [BitTimes; N]) -> Result<BitTimes, Refusal> {
+    let path = BitTimes::checked_sum(parts).ok_or(Refusal::DelayTooLong)?;
+    try_path_bits(path)?;
+    Ok(path)
+}
+
+/// Bits in flight on the cable, rounded up.
+fn link_bits(metres: u64, rate: u64, percentage: u64) -> BitTimes {
+    let dividend = metres * rate * 100;
+    let divisor = percentage * LIGHT_METRES_PER_MICROSECOND;
+    if slipped(Slip::LinkBitsRoundedDown) {
+        return BitTimes(dividend / divisor);
+    }
+    BitTimes(dividend.div_ceil(divisor))
+}
+
+/// A row of Table N-1: what an interface takes for transmit and receive together.
+pub struct InterfaceRow {
+    pub name: &'static str,
+    pub bits: BitTimes,
+    pub quanta: Quanta,
+}
+
+impl InterfaceRow {
+    const fn new(name: &'static str, bits: u64, quanta: u64) -> Self {
+        InterfaceRow {
+            name,
+            bits: BitTimes(bits),
+            quanta: Quanta(quanta),
+        }
+    }
+
+    /// Half a row is transmit, half receive.
+    pub fn each_direction(&self) -> BitTimes {
+        BitTimes(self.bits.0 / 2)
+    }
+}
+
+/// Table N-1.
+pub const INTERFACE_ROWS: [InterfaceRow; 8] = [
+    InterfaceRow::new("10G MAC Control, MAC and RS", 8_192, 16),
+    InterfaceRow::new("XGXS and XAUI", 2_048, 4),
+    InterfaceRow::new("10GBASE-X PCS", 2_048, 4),
+    InterfaceRow::new("10GBASE-R PCS", 3_584, 7),
+    InterfaceRow::new("LX4", 512, 1),
+    InterfaceRow::new("CX4", 512, 1),
+    InterfaceRow::new("serial PMA and PMD", 512, 1),
+    InterfaceRow::new("10GBASE-T", 25_600, 50),
+];
