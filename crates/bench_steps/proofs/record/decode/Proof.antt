@@ -1,0 +1,73 @@
+use Rattle.bench_steps.specs.declared.record.Record.the-variants.{Refused}
+use Rattle.bench_steps.specs.Records.{bodyOf, sizedRefusal, octetsRefusal, decoded}
+use Rattle.frame.specs.Layout.{octetAt}
+use Rattle.ground.proofs.Pick.{pick-yes, pick-no}
+use denote.Ref.{now}
+use borrow.Author.Tests.{eq-eqb, ne-eqb}
+use lib.ListN.{length}
+use lib.Dec.{eqb}
+use mathlib.Core.Path.{_≡_, sym, ap, _∙_}
+use Prim.Native.Nat.{ℕ, _+_}
+use borrow.Author.Needs.{needs}
+use Rattle.bench_steps.proofs.record.decode.Statement.{statement}
+use Rattle.bench_steps.proofs.record.decode.Tie as tie
+use Rattle.bench_steps.proofs.record.decode.Reads as reads
+use Rattle.bench_steps.proofs.record.decode.Lts as lts
+use Rattle.bench_steps.proofs.record.body.Reads as body-reads
+use Rattle.bench_steps.proofs.record.body_length.Reads as body-length-reads
+use Rattle.bench_steps.proofs.record.octet_at.Reads as octet-at-reads
+use Rattle.bench_steps.proofs.record.refusal.Reads as refusal-reads
+
+-- src/record.rt:142:9
+octet-at-requires : tie.Need-octet-at-requires
+octet-at-requires c κs = search needs
+
+-- src/record.rt:143:50
+body-length-requires : tie.Need-body-length-requires
+body-length-requires c κs = search needs
+
+-- src/record.rt:143:46
+add-refusal : tie.Need-add-refusal
+add-refusal c = search needs
+
+-- src/record.rt:143:9
+refusal-requires : tie.Need-refusal-requires
+refusal-requires c κs = search needs
+
+-- src/record.rt:145:9
+returns : tie.Need-returns
+unfolding decoded
+returns c =
+    let o = now (c .before .before .before .before .before .args .octets) in
+    let is : c .before .refusal .result ≡ octetsRefusal (octetAt o 0) (length o) =
+    c .before .refusal .ensures ∙
+    ap (λ (k : ℕ). sizedRefusal (c .before .before .before .octet-at .result) (length o) (1 + k)) (c .before .before .body-length .ensures .0) ∙
+    ap (λ (k : ℕ). octetsRefusal k (length o)) (c .before .before .before .octet-at .ensures) in
+    ap Refused is ∙ sym (pick-no _ _ (ap (λ (k : ℕ). eqb k 0) (sym is) ∙ ne-eqb (c .before .refusal .result) 0 (c .if1 .taken)))
+
+-- src/record.rt:147:5
+body-requires : tie.Need-body-requires
+body-requires c κs = search needs
+
+-- src/record.rt:139:1
+returns-2 : tie.Need-returns-2
+unfolding decoded
+returns-2 c =
+    let o = now (c .before .before .before .before .before .before .args .octets) in
+    let is : c .before .before .refusal .result ≡ octetsRefusal (octetAt o 0) (length o) =
+    c .before .before .refusal .ensures ∙
+    ap (λ (k : ℕ). sizedRefusal (c .before .before .before .before .octet-at .result) (length o) (1 + k)) (c .before .before .before .body-length .ensures .0) ∙
+    ap (λ (k : ℕ). octetsRefusal k (length o)) (c .before .before .before .before .octet-at .ensures) in
+    c .body .ensures ∙ ap (λ (k : ℕ). bodyOf k o) (c .before .before .before .before .octet-at .ensures) ∙ sym (pick-yes _ _ (ap (λ (k : ℕ). eqb k 0) (sym is) ∙ eq-eqb (c .before .before .refusal .result) 0 (c .before .if1 .left)))
+
+pub decode-spec : {M : Type 1} → statement M
+decode-spec =
+    tie.close
+    (tie.spec
+    octet-at-requires
+    body-length-requires
+    add-refusal
+    refusal-requires
+    returns
+    body-requires
+    returns-2)

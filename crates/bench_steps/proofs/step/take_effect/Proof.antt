@@ -1,0 +1,133 @@
+use Rattle.bench_steps.proofs.Answered.{told-refused, take-effect-number, ended-some, take-effect-told}
+use lib.Seq.{length-take-le}
+use Rattle.bench_steps.proofs.Answered.{told-refused, take-effect-number, ended-some, take-effect-answers}
+use Rattle.bench_steps.specs.Chains.{noneEnded, oldestOf}
+use Rattle.recorder.specs.declared.watch.Moment.{Moment}
+use Rattle.ground.proofs.Pick.{pick-yes, pick-no}
+use Rattle.bench_steps.specs.declared.record.Record.the-variants as record'
+use Rattle.bench_steps.specs.Answers.{memoryOf, Lent}
+use denote.Ref.{now}
+use native.Mathlib.Omega.{arith}
+use mathlib.Core.List.{List}
+use mathlib.Core.Bool.{Bool, true, false}
+use mathlib.Core.Path.{_≡_, refl, sym, ap, _∙_}
+use Prim.Native.Nat.{ℕ, _+_, _*_, _-_, _≤_}
+use borrow.Author.Needs.{needs}
+use Rattle.bench_steps.proofs.step.take_effect.Statement.{statement}
+use Rattle.bench_steps.proofs.step.take_effect.Tie as tie
+use Rattle.bench_steps.proofs.step.take_effect.Reads as reads
+use Rattle.bench_steps.proofs.step.take_effect.Lts as lts
+use Rattle.bench_steps.proofs.rows.shift.Reads as shift-reads
+use Rattle.bench_steps.proofs.rows.shift_octets.Reads as shift-octets-reads
+use Rattle.bench_steps.proofs.step.effect.Reads as effect-reads
+use Rattle.bench_steps.proofs.step.none_ended.Reads as none-ended-reads
+use Rattle.bench_steps.proofs.step.oldest.Reads as oldest-reads
+use Rattle.bench_steps.proofs.step.refused.Reads as refused-reads
+use Rattle.frame.proofs.read.Reads as read-reads
+
+-- src/step.rt:362:19
+oldest-requires : tie.Need-oldest-requires
+oldest-requires c κs = search needs
+
+-- src/step.rt:362:8
+none-ended-requires : tie.Need-none-ended-requires
+none-ended-requires c κs = search needs
+
+-- src/step.rt:363:9
+refused-requires : tie.Need-refused-requires
+refused-requires c κs = search needs
+
+-- src/step.rt:363:9
+same-length : tie.Need-same-length
+same-length c = search needs
+
+-- src/step.rt:363:9
+returns : tie.Need-returns
+returns c =
+    told-refused (c .before .before .before .before .before .before .before .before .before .args .watch) (memoryOf (c .before .before .before .before .before .before .before .before .before .args .bench) (now (c .before .before .before .before .before .before .before .before .before .args .ends)) (now (c .before .before .before .before .before .before .before .before .before .args .kinds)) (now (c .before .before .before .before .before .before .before .before .before .args .pfc-ends)) (now (c .before .before .before .before .before .before .before .before .before .args .octets))) record'.TakeEffect 37 _ _ (c .before .before .before .before .before .before .before .before .before .pre)
+    (sym (pick-yes _ _ (ap (λ (e : Moment). noneEnded e (c .before .before .before .before .before .before .before .before .before .args .bench .now)) (sym (c .before .before .before .oldest .ensures)) ∙ sym (c .before .before .none-ended .ensures) ∙ c .before .if1 .taken)) ∙ take-effect-number (c .before .before .before .before .before .before .before .before .before .args .watch) (memoryOf (c .before .before .before .before .before .before .before .before .before .args .bench) (now (c .before .before .before .before .before .before .before .before .before .args .ends)) (now (c .before .before .before .before .before .before .before .before .before .args .kinds)) (now (c .before .before .before .before .before .before .before .before .before .args .pfc-ends)) (now (c .before .before .before .before .before .before .before .before .before .args .octets))) (c .before .before .before .before .before .before .before .before .before .pre))
+    (λ e. omega arith)
+    (c .refused .ensures .0)
+    (c .refused .ensures .1)
+
+-- src/step.rt:366:29
+slice-reshare-prefix-read : tie.Need-slice-reshare-prefix-read
+slice-reshare-prefix-read c = search needs
+
+-- src/step.rt:366:29
+slice-aggregate-read : tie.Need-slice-aggregate-read
+slice-aggregate-read c = sym (length-take-le 60 (now (c .before .before .before .before .before .before .before .before .before .before .args .octets)) (omega (arith, (c .before .before .before .before .before .before .before .before .before .before .pre))))
+
+-- src/step.rt:366:9
+read-requires : tie.Need-read-requires
+read-requires c κs = search needs
+
+-- src/step.rt:367:16
+sub-left : tie.Need-sub-left
+sub-left c = omega (arith, (ended-some (c .before .before .before .before .before .before .before .before .before .before .before .before .args .bench .«pfc_count») (now (c .before .before .before .before .before .before .before .before .before .before .before .before .args .pfc-ends)) (c .before .before .before .before .before .before .before .before .before .before .before .before .args .bench .now) (ap (λ (e : Moment). noneEnded e (c .before .before .before .before .before .before .before .before .before .before .before .before .args .bench .now)) (sym (c .before .before .before .before .before .before .oldest .ensures)) ∙ sym (c .before .before .before .before .before .none-ended .ensures) ∙ c .before .before .before .before .if1 .left)))
+
+-- src/step.rt:369:5
+shift-requires : tie.Need-shift-requires
+shift-requires c κs = search needs
+
+-- src/step.rt:370:32
+mul-shift-octets : tie.Need-mul-shift-octets
+mul-shift-octets c = search needs
+
+-- src/step.rt:370:5
+shift-octets-requires : tie.Need-shift-octets-requires
+shift-octets-requires c κs = search needs
+
+-- src/step.rt:372:9
+effect-requires : tie.Need-effect-requires
+effect-requires c κs = search needs
+
+-- src/step.rt:375:5
+refused-requires-2 : tie.Need-refused-requires-2
+refused-requires-2 c κs = search needs
+
+-- src/step.rt:351:1
+same-length-2 : tie.Need-same-length-2
+same-length-2 c = search needs
+
+-- src/step.rt:351:1
+same-length-3 : tie.Need-same-length-3
+same-length-3 c = search needs
+
+-- src/step.rt:351:1
+returns-2 : tie.Need-returns-2
+returns-2 c =
+    let a = c .before .before .before .before .before .before .before .before .before .before .before .before .before .before .before .before .before .before .before .before .before .before .args in
+    let some : 1 ≤ a .bench .«pfc_count» = (ended-some (c .before .before .before .before .before .before .before .before .before .before .before .before .before .before .before .before .before .before .before .before .before .before .args .bench .«pfc_count») (now (c .before .before .before .before .before .before .before .before .before .before .before .before .before .before .before .before .before .before .before .before .before .before .args .pfc-ends)) (c .before .before .before .before .before .before .before .before .before .before .before .before .before .before .before .before .before .before .before .before .before .before .args .bench .now) (ap (λ (e : Moment). noneEnded e (c .before .before .before .before .before .before .before .before .before .before .before .before .before .before .before .before .before .before .before .before .before .before .args .bench .now)) (sym (c .before .before .before .before .before .before .before .before .before .before .before .before .before .before .before .before .oldest .ensures)) ∙ sym (c .before .before .before .before .before .before .before .before .before .before .before .before .before .before .before .none-ended .ensures) ∙ c .before .before .before .before .before .before .before .before .before .before .before .before .before .before .if1 .left)) in
+    let counted : a .bench .«pfc_count» ≡ a .bench .«pfc_count» - 1 + 1 = omega arith in
+    take-effect-told (c .before .before .before .before .before .before .before .before .before .before .before .before .before .before .before .before .before .before .before .before .before .before .args .watch) (memoryOf (c .before .before .before .before .before .before .before .before .before .before .before .before .before .before .before .before .before .before .before .before .before .before .args .bench) (now (c .before .before .before .before .before .before .before .before .before .before .before .before .before .before .before .before .before .before .before .before .before .before .args .ends)) (now (c .before .before .before .before .before .before .before .before .before .before .before .before .before .before .before .before .before .before .before .before .before .before .args .kinds)) (now (c .before .before .before .before .before .before .before .before .before .before .before .before .before .before .before .before .before .before .before .before .before .before .args .pfc-ends)) (now (c .before .before .before .before .before .before .before .before .before .before .before .before .before .before .before .before .before .before .before .before .before .before .args .octets))) (c .before .before .before .before .before .before .before .before .before .before .before .before .before .before .before .before .before .before .before .before .before .before .pre) _ _ _ _ _ _ _
+    (c .before .before .before .before .before .before .before .before .shift .ensures)
+    (c .before .before .before .before .shift-octets .ensures)
+    (c .before .before .before .before .before .before .before .before .before .before .before .read .ensures)
+    (c .before .effect .ensures)
+    counted
+    (sym (pick-no _ _ (ap (λ (e : Moment). noneEnded e (c .before .before .before .before .before .before .before .before .before .before .before .before .before .before .before .before .before .before .before .before .before .before .args .bench .now)) (sym (c .before .before .before .before .before .before .before .before .before .before .before .before .before .before .before .before .oldest .ensures)) ∙ sym (c .before .before .before .before .before .before .before .before .before .before .before .before .before .before .before .none-ended .ensures) ∙ c .before .before .before .before .before .before .before .before .before .before .before .before .before .before .if1 .left)) ∙ take-effect-number (c .before .before .before .before .before .before .before .before .before .before .before .before .before .before .before .before .before .before .before .before .before .before .args .watch) (memoryOf (c .before .before .before .before .before .before .before .before .before .before .before .before .before .before .before .before .before .before .before .before .before .before .args .bench) (now (c .before .before .before .before .before .before .before .before .before .before .before .before .before .before .before .before .before .before .before .before .before .before .args .ends)) (now (c .before .before .before .before .before .before .before .before .before .before .before .before .before .before .before .before .before .before .before .before .before .before .args .kinds)) (now (c .before .before .before .before .before .before .before .before .before .before .before .before .before .before .before .before .before .before .before .before .before .before .args .pfc-ends)) (now (c .before .before .before .before .before .before .before .before .before .before .before .before .before .before .before .before .before .before .before .before .before .before .args .octets))) (c .before .before .before .before .before .before .before .before .before .before .before .before .before .before .before .before .before .before .before .before .before .before .pre))
+    (c .refused2 .ensures .0)
+    (c .refused2 .ensures .1)
+
+pub take-effect-spec : {M : Type 1} → statement M
+take-effect-spec =
+    tie.close
+    (tie.spec
+    oldest-requires
+    none-ended-requires
+    refused-requires
+    same-length
+    returns
+    slice-reshare-prefix-read
+    slice-aggregate-read
+    read-requires
+    sub-left
+    shift-requires
+    mul-shift-octets
+    shift-octets-requires
+    effect-requires
+    refused-requires-2
+    same-length-2
+    same-length-3
+    returns-2)

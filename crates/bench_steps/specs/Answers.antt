@@ -1,0 +1,36 @@
+-- What one step answers on a memory: the number, and the memory after it.
+use Prim.Native.Nat.{ℕ, _≤_}
+use mathlib.Core.Path.{_≡_}
+use mathlib.Core.List.{List}
+use lib.ListN.{length}
+use lib.Dec.{eqb}
+use Rattle.ground.specs.Pick.{pick}
+use Rattle.recorder.specs.declared.watch.Watch.{Watch}
+use Rattle.bench_steps.specs.Held.{viewOf, holding}
+use Rattle.bench_steps.specs.Step.{refusalOf, nextOf}
+use Rattle.bench_steps.specs.declared.record.Record.{Record}
+use Rattle.bench_steps.specs.declared.state.Bench.{Bench}
+use Rattle.bench_steps.specs.declared.state.Memory.{Memory}
+
+-- a memory of its parts
+abbrev pub memoryOf : Bench → List ℕ → List ℕ → List ℕ → List ℕ → Memory
+memoryOf bench dataEnds dataKinds pfcEnds pfcOctets =
+    record { bench = bench; «data_ends» = dataEnds; «data_kinds» = dataKinds; «pfc_ends» = pfcEnds; «pfc_octets» = pfcOctets }
+
+-- arrays of 128 places, and no more frames under way than they have
+pub record Lent (m : Memory) : Type 0 where
+  pub data-ends : length (m .«data_ends») ≡ 128
+  pub data-kinds : length (m .«data_kinds») ≡ 128
+  pub pfc-ends : length (m .«pfc_ends») ≡ 128
+  pub pfc-octets : length (m .«pfc_octets») ≡ 7680
+  pub data-count : m .bench .«data_count» ≤ 128
+  pub pfc-count : m .bench .«pfc_count» ≤ 128
+
+-- the memory after a record is asked: the next state, or all as it was
+unfoldable pub memoryFor : Watch → Memory → Record → Memory
+memoryFor w m asked = pick (eqb (refusalOf w (viewOf m) asked) 0) (holding m (nextOf w (viewOf m) asked)) m
+
+pub record Answers (w : Watch) (m : Memory) (asked : Record) (number : ℕ) (then : Memory) : Type 0 where
+  pub number-is : number ≡ refusalOf w (viewOf m) asked
+  pub memory-is : then ≡ memoryFor w m asked
+  pub lent : Lent then

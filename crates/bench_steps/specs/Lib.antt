@@ -1,0 +1,9 @@
+-- What the bench's contracts cite.
+pub mod Answers
+pub mod Chains
+pub mod Held
+pub mod Records
+pub mod Run
+pub mod State
+pub mod Step
+pub mod Walk

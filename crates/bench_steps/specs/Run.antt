@@ -1,0 +1,119 @@
+-- Document 01, "The bench": a run over a whole input. "The bench program reads records on standard input, at most 65,536 octets, stops
+-- at the first refusal and prints."
+use Prim.Native.Nat.{ℕ, zero, suc, _+_, _*_}
+use mathlib.Core.Bool.{Bool}
+use mathlib.Core.List.{List, [], _∷_}
+use lib.ListN.{length, drop}
+use lib.Dec.{ltb, eqb}
+use Rattle.ground.specs.Pick.{pick}
+use Rattle.ground.specs.Eight.{eight}
+use Rattle.units.specs.declared.BitTimes.{BitTimes}
+use Rattle.units.specs.declared.OctetTimes.{OctetTimes}
+use Rattle.frame.specs.Layout.{octetAt, wordAt}
+use Rattle.head.specs.Timers.{start}
+use Rattle.headroom_sum.specs.Keep.{kept}
+use Rattle.headroom_sum.specs.declared.Kept.{Kept}
+use Rattle.recorder.specs.Settings.{settling}
+use Rattle.recorder.specs.Watching.{fresh}
+use Rattle.recorder.specs.declared.settings.Settings.{Settings}
+use Rattle.recorder.specs.declared.settings.Settling.{Settling}
+use Rattle.recorder.specs.declared.settings.Settling.the-variants.{Accepted, Refused}
+use Rattle.recorder.specs.declared.watch.Watch.{Watch}
+use Rattle.bench_steps.specs.Records.{recordLength, longAt, decoded}
+use Rattle.bench_steps.specs.State.{State, empty}
+use Rattle.bench_steps.specs.Step.{refusalOf, nextOf}
+use Rattle.bench_steps.specs.declared.run.Outcome.{Outcome}
+use Rattle.bench_steps.specs.declared.run.Outcome.the-variants as outcome
+use Rattle.bench_steps.specs.declared.run.Report.{Report}
+use Rattle.bench_steps.specs.declared.state.Bench.{Bench}
+
+-- "00: enabled 1, M 2, generation bits 4, request path bits 4, data path bits 4, T 2, I 4, hysteresis 4, rooms 8 × 4"
+abbrev pub settingsIn : List ℕ → Settings
+settingsIn octets =
+    record {
+      enabled = octetAt octets 1;
+      largest = wordAt octets 2;
+      generation = record { 0 = longAt octets 4 };
+      «request_path» = record { 0 = longAt octets 8 };
+      «data_path» = record { 0 = longAt octets 12 };
+      pause = wordAt octets 16;
+      refresh = record { 0 = longAt octets 18 };
+      hysteresis = longAt octets 22;
+      rooms = eight (λ n. longAt octets (26 + 4 * n));
+    }
+
+-- a record is accepted, or refused by its number
+unfoldable pub outcomeOf : ℕ → Outcome
+outcomeOf number = pick (eqb number 0) outcome.Accepted (outcome.Refused number)
+
+-- "Line 1: records accepted after the settings, time, refusal or 0, its record number"; the rooms and A's timers for the other lines
+abbrev pub reportOf : ℕ → State → ℕ → ℕ → ℕ → Report
+reportOf enabled s steps refusal at =
+    record {
+      steps = steps;
+      time = s .now;
+      refusal = refusal;
+      at = at;
+      enabled = enabled;
+      rooms = s .recorder .rooms;
+      timers = s .head .timers;
+    }
+
+-- the same of what goes by value
+abbrev pub benchReport : ℕ → Bench → ℕ → ℕ → ℕ → Report
+benchReport enabled b steps refusal at =
+    record {
+      steps = steps;
+      time = b .now;
+      refusal = refusal;
+      at = at;
+      enabled = enabled;
+      rooms = b .recorder .rooms;
+      timers = b .head .timers;
+    }
+
+abbrev pub emptyBench : ℕ → Bench
+emptyBench enabled =
+    record { now = 0; head = start enabled; recorder = fresh; «a_free» = 0; «b_free» = 0; «data_count» = 0; «pfc_count» = 0 }
+
+-- "If the settings are refused or missing, or the input is too long, line 1 stands alone with steps 0 and time 0, at 0."
+abbrev pub refusedReport : ℕ → Report
+refusedReport number = benchReport 0 (emptyBench 0) 0 number 0
+
+-- the records of the octets from a state on, the first refused one ending the run; fuel: at most as many records as octets
+unfoldable pub runFrom : ℕ → Watch → State → ℕ → List ℕ → Report
+unfolding pick
+runFrom zero w s steps octets = reportOf (w .settings .enabled) s steps 0 0
+runFrom (suc fuel) w s steps [] = reportOf (w .settings .enabled) s steps 0 0
+runFrom (suc fuel) w s steps (kind ∷ rest) =
+    pick (eqb (refusalOf w s (decoded (kind ∷ rest))) 0)
+    (runFrom fuel w (nextOf w s (decoded (kind ∷ rest))) (steps + 1) (drop (recordLength kind) (kind ∷ rest)))
+    (reportOf (w .settings .enabled) s steps (refusalOf w s (decoded (kind ∷ rest))) (steps + 1))
+
+-- the records after accepted settings, from the empty state
+abbrev pub followOf : Watch → List ℕ → Report
+followOf w octets = runFrom (length octets) w (empty w) 0 octets
+
+-- "44, 45: settings missing or repeated", "31: body cut short": the first record must be settings
+unfoldable pub firstRefusal : ℕ → ℕ → ℕ
+firstRefusal kind size = pick (ltb size 1) 44 (pick (eqb kind 0) (pick (ltb size 58) 31 0) 44)
+
+-- the watch of accepted settings
+abbrev pub watchWith : Settings → Kept → Watch
+watchWith s room = record { settings = s; kept = room }
+
+-- settings that are whole: refused, or followed by their records
+unfoldable pub settledBy : Settling → List ℕ → Report
+settledBy (Refused number) input = refusedReport number
+settledBy (Accepted room) input = followOf (watchWith (settingsIn input) room) (drop 58 input)
+
+abbrev pub settledOf : List ℕ → Report
+settledOf input = settledBy (settling (settingsIn input)) input
+
+-- "45 .. input too long", before everything
+unfoldable pub runOf : List ℕ → Report
+runOf input =
+    pick (ltb 65536 (length input)) (refusedReport 45)
+    (pick (eqb (firstRefusal (octetAt input 0) (length input)) 0)
+    (settledOf input)
+    (refusedReport (firstRefusal (octetAt input 0) (length input))))

@@ -1,0 +1,492 @@
+// One step for each kind of record: its refusal in document 01's order, else the state after it. The arrays are lent, so that the
+// frames under way are not copied at each step.
+use crate::record::Record;
+use crate::rows;
+use crate::state::Bench;
+use crate::wait;
+use crate::wait::Walk;
+use frame::Verdict;
+use head::Head;
+use recorder::watch::Moment;
+use recorder::watch::Recorder;
+use recorder::watch::Watch;
+ghost use mathlib.Core.Path.{_≡_};
+ghost use mathlib.Core.Bool.{Bool};
+ghost use Prim.Native.Nat.{_+_, _/_, _%_, _≤_};
+ghost use mathlib.Core.List.{_++_};
+ghost use lib.ListN.{length, take, drop};
+ghost use Rattle.frame.specs.Build.{builtFrame};
+ghost use Rattle.recorder.specs.Watching.{arrivedAt};
+ghost use Rattle.bench_steps.specs.Answers.{Answers, Lent, memoryOf};
+ghost use Rattle.bench_steps.specs.Chains.{lengthRefused, oldestOf, noneEnded, overrunBy, startDataNumber, startOtherNumber, startPfcNumber};
+ghost use Rattle.bench_steps.specs.Step.{pastDue, notDue, effectOf, sourceB};
+ghost use Rattle.bench_steps.specs.Records.{decoded};
+
+// What a step answers: document 01's number, or 0, and what goes by value after it.
+pub struct Stepped {
+    pub refusal: u8,
+    pub bench: Bench,
+}
+
+// Whether time is past a moment, if there is one, by more than a bound.
+fn past(moment: Moment, bound: u64, now: u64) -> bool
+    ensures { λ r. ⌜ r ≡ pastDue moment bound now ⌝ }
+{
+    match moment {
+        Moment::Never => false,
+        Moment::At(first) => {
+            if first <= now {
+                bound < now - first
+            } else {
+                false
+            }
+        }
+    }
+}
+
+fn length_refused(largest: u64, length: u64) -> bool
+    ensures { λ r. ⌜ r ≡ lengthRefused largest length ⌝ }
+{
+    if length < 64 {
+        return true;
+    }
+    largest < length
+}
+
+// Kind 02: 32, 33, 34, 35, 36.
+fn start_data_number(
+    priority: u8,
+    outside: bool,
+    now: u64,
+    free: u64,
+    paused: bool,
+    count: u64,
+) -> u8
+    ensures { λ r. ⌜ r ≡ startDataNumber priority outside now free paused count ⌝ }
+{
+    if 7 < priority {
+        return 32;
+    }
+    if outside {
+        return 33;
+    }
+    if now < free {
+        return 34;
+    }
+    if paused {
+        return 35;
+    }
+    if 128 <= count {
+        return 36;
+    }
+    0
+}
+
+// Kind 04: 33, 34, 38.
+fn start_other_number(outside: bool, now: u64, free: u64, late: bool) -> u8
+    ensures { λ r. ⌜ r ≡ startOtherNumber outside now free late ⌝ }
+{
+    if outside {
+        return 33;
+    }
+    if now < free {
+        return 34;
+    }
+    if late {
+        return 38;
+    }
+    0
+}
+
+// Kind 05: 39, 34, 36.
+fn start_pfc_number(undue: bool, now: u64, free: u64, count: u64) -> u8
+    ensures { λ r. ⌜ r ≡ startPfcNumber undue now free count ⌝ }
+{
+    if undue {
+        return 39;
+    }
+    if now < free {
+        return 34;
+    }
+    if 128 <= count {
+        return 36;
+    }
+    0
+}
+
+fn refused(number: u8, bench: Bench) -> Stepped
+    ensures { λ r. ⌜ (r .refusal ≡ number) × (r .bench ≡ bench) ⌝ }
+{
+    Stepped {
+        refusal: number,
+        bench,
+    }
+}
+
+// When the wire time of the oldest frame of a row ends, if one is under way.
+fn oldest(row: &[u64], count: u64) -> Moment
+    requires { ⌜ 1 ≤ length (now row) ⌝ }
+    ensures { λ r. ⌜ r ≡ oldestOf count (now (row .entry)) ⌝ }
+{
+    if count == 0 {
+        Moment::Never
+    } else {
+        Moment::At(row[0])
+    }
+}
+
+// 37: no frame is under way, or the oldest one's wire time has not ended.
+fn none_ended(oldest: Moment, now: u64) -> bool
+    ensures { λ r. ⌜ r ≡ noneEnded oldest now ⌝ }
+{
+    match oldest {
+        Moment::Never => true,
+        Moment::At(end) => now < end,
+    }
+}
+
+// 40: an arrival, or the start of a due PFC frame, would be later than its bound.
+fn overrun(
+    data: Moment,
+    data_bound: u64,
+    pfc: Moment,
+    pfc_bound: u64,
+    due: Moment,
+    due_bound: u64,
+    now: u64,
+) -> bool
+    ensures { λ r. ⌜ r ≡ overrunBy «data» «data_bound» pfc «pfc_bound» due «due_bound» now ⌝ }
+{
+    if past(data, data_bound, now) {
+        return true;
+    }
+    if past(pfc, pfc_bound, now) {
+        return true;
+    }
+    past(due, due_bound, now)
+}
+
+// Kind 02: A starts a data frame.
+fn start_data(
+    watch: Watch,
+    bench: Bench,
+    ends: &mut [u64],
+    kinds: &mut [u64],
+    pfc_ends: &mut [u64],
+    octets: &mut [u8],
+    priority: u8,
+    length: u16,
+) -> Stepped
+    requires { ⌜ Lent (memoryOf bench (now ends) (now kinds) (now «pfc_ends») (now octets)) ⌝ }
+    ensures { λ r. ⌜ Answers watch (memoryOf bench (now (ends .entry)) (now (kinds .entry)) (now («pfc_ends» .entry)) (now (octets .entry))) (Record.StartData priority length) (r .refusal) (memoryOf (r .bench) (now (ends .exit)) (now (kinds .exit)) (now («pfc_ends» .exit)) (now (octets .exit))) ⌝ }
+{
+    let head = bench.head;
+    let outside = length_refused(watch.settings.largest, length as u64);
+    let number = start_data_number(
+        priority,
+        outside,
+        bench.now,
+        bench.a_free,
+        head.is_paused(priority),
+        bench.data_count,
+    );
+    if number != 0 {
+        return refused(number, bench);
+    }
+    let n = bench.data_count as usize;
+    let end = units::sum(bench.now, length as u64 + 20);
+    ends[n] = end;
+    kinds[n] = priority as u64 * 65536 + length as u64;
+    let mut next = bench;
+    next.a_free = end;
+    next.data_count = bench.data_count + 1;
+    refused(0, next)
+}
+
+// Kind 01: n octet times pass, all of them or none. A bound that is overrun stays overrun, so the bounds are tried at the end.
+fn wait_for(
+    watch: Watch,
+    bench: Bench,
+    ends: &mut [u64],
+    kinds: &mut [u64],
+    pfc_ends: &mut [u64],
+    octets: &mut [u8],
+    n: u16,
+) -> Stepped
+    requires { ⌜ Lent (memoryOf bench (now ends) (now kinds) (now «pfc_ends») (now octets)) ⌝ }
+    ensures { λ r. ⌜ Answers watch (memoryOf bench (now (ends .entry)) (now (kinds .entry)) (now («pfc_ends» .entry)) (now (octets .entry))) (Record.Wait n) (r .refusal) (memoryOf (r .bench) (now (ends .exit)) (now (kinds .exit)) (now («pfc_ends» .exit)) (now (octets .exit))) ⌝ }
+{
+    if 1_099_511_627_776 < units::sum(bench.now, n as u64) {
+        return refused(41, bench);
+    }
+    let head = bench.head;
+    let r = bench.recorder;
+    let due = r.due;
+    let refresh = recorder::watch::refresh_of(r, watch);
+    let start = Walk {
+        now: bench.now,
+        head,
+        due,
+    };
+    let w = wait::walked(start, refresh, n as u64);
+    let late = w.due;
+    let data = oldest(ends, bench.data_count);
+    let pfc = oldest(pfc_ends, bench.pfc_count);
+    let bound = units::sum(watch.kept.generation.0, watch.kept.wire.0);
+    if overrun(
+        data,
+        watch.kept.data.0,
+        pfc,
+        watch.kept.request.0,
+        late,
+        bound,
+        w.now,
+    ) {
+        return refused(40, bench);
+    }
+    let mut next = bench;
+    next.now = w.now;
+    let timers = w.head;
+    next.head = timers;
+    let after = recorder::watch::with_due(r, late);
+    next.recorder = after;
+    refused(0, next)
+}
+
+// A data frame reaches B. A number above 7 is no priority and changes nothing.
+fn arrival(r: Recorder, watch: Watch, kind: u64, now: u64) -> Recorder
+    ensures { λ z. ⌜ z ≡ arrivedAt watch r (kind / 65536) (kind % 65536) now ⌝ }
+{
+    if kind / 65536 < 256 {
+        recorder::watch::arrived(r, watch, (kind / 65536) as u8, kind % 65536, now)
+    } else {
+        r
+    }
+}
+
+// Kind 03: the oldest data frame reaches B.
+fn arrive(
+    watch: Watch,
+    bench: Bench,
+    ends: &mut [u64],
+    kinds: &mut [u64],
+    pfc_ends: &mut [u64],
+    octets: &mut [u8],
+) -> Stepped
+    requires { ⌜ Lent (memoryOf bench (now ends) (now kinds) (now «pfc_ends») (now octets)) ⌝ }
+    ensures { λ r. ⌜ Answers watch (memoryOf bench (now (ends .entry)) (now (kinds .entry)) (now («pfc_ends» .entry)) (now (octets .entry))) Record.Arrive (r .refusal) (memoryOf (r .bench) (now (ends .exit)) (now (kinds .exit)) (now («pfc_ends» .exit)) (now (octets .exit))) ⌝ }
+{
+    if none_ended(oldest(ends, bench.data_count), bench.now) {
+        return refused(37, bench);
+    }
+    let kind = kinds[0];
+    let left = bench.data_count - 1;
+    let n = left as usize;
+    rows::shift(ends, n);
+    rows::shift(kinds, n);
+    let r = bench.recorder;
+    let mut next = bench;
+    let after = arrival(r, watch, kind, bench.now);
+    next.recorder = after;
+    next.data_count = left;
+    refused(0, next)
+}
+
+// Kind 04: B starts some other frame, which only holds the wire.
+fn start_other(
+    watch: Watch,
+    bench: Bench,
+    ends: &mut [u64],
+    kinds: &mut [u64],
+    pfc_ends: &mut [u64],
+    octets: &mut [u8],
+    length: u16,
+) -> Stepped
+    requires { ⌜ Lent (memoryOf bench (now ends) (now kinds) (now «pfc_ends») (now octets)) ⌝ }
+    ensures { λ r. ⌜ Answers watch (memoryOf bench (now (ends .entry)) (now (kinds .entry)) (now («pfc_ends» .entry)) (now (octets .entry))) (Record.StartOther length) (r .refusal) (memoryOf (r .bench) (now (ends .exit)) (now (kinds .exit)) (now («pfc_ends» .exit)) (now (octets .exit))) ⌝ }
+{
+    let r = bench.recorder;
+    let due = r.due;
+    let outside = length_refused(watch.settings.largest, length as u64);
+    let late = past(due, watch.kept.generation.0, bench.now);
+    let number = start_other_number(outside, bench.now, bench.b_free, late);
+    if number != 0 {
+        return refused(number, bench);
+    }
+    let mut next = bench;
+    next.b_free = units::sum(bench.now, length as u64 + 20);
+    refused(0, next)
+}
+
+// Whether no PFC frame is due.
+fn not_due(due: Moment) -> bool
+    ensures { λ r. ⌜ r ≡ notDue due ⌝ }
+{
+    match due {
+        Moment::Never => true,
+        Moment::At(_) => false,
+    }
+}
+
+// Writes the PFC frame that the marks ask for into its place.
+fn build_at(octets: &mut [u8], place: usize, enabled: u8, times: [u16; 8])
+    requires { ⌜ place + 60 ≤ length (now octets) ⌝ }
+    ensures { λ _. ⌜ now (octets .exit) ≡ take place (now (octets .entry)) ++ (builtFrame sourceB enabled times ++ drop (place + 60) (now (octets .entry))) ⌝ }
+{
+    frame::build(
+        &mut octets[place..],
+        [0x02, 0x00, 0x00, 0x00, 0x00, 0x0B],
+        enabled,
+        times,
+    );
+}
+
+// Kind 05: B starts the PFC frame, with the marks as they stand.
+fn start_pfc(
+    watch: Watch,
+    bench: Bench,
+    ends: &mut [u64],
+    kinds: &mut [u64],
+    pfc_ends: &mut [u64],
+    octets: &mut [u8],
+) -> Stepped
+    requires { ⌜ Lent (memoryOf bench (now ends) (now kinds) (now «pfc_ends») (now octets)) ⌝ }
+    ensures { λ r. ⌜ Answers watch (memoryOf bench (now (ends .entry)) (now (kinds .entry)) (now («pfc_ends» .entry)) (now (octets .entry))) Record.StartPfc (r .refusal) (memoryOf (r .bench) (now (ends .exit)) (now (kinds .exit)) (now («pfc_ends» .exit)) (now (octets .exit))) ⌝ }
+{
+    let r = bench.recorder;
+    let due = r.due;
+    let number = start_pfc_number(not_due(due), bench.now, bench.b_free, bench.pfc_count);
+    if number != 0 {
+        return refused(number, bench);
+    }
+    let n = bench.pfc_count as usize;
+    let end = units::sum(bench.now, 84);
+    pfc_ends[n] = end;
+    build_at(
+        octets,
+        60 * n,
+        watch.settings.enabled,
+        recorder::watch::times_for(r, watch),
+    );
+    let mut next = bench;
+    next.b_free = end;
+    next.pfc_count = bench.pfc_count + 1;
+    let after = recorder::watch::started(r, bench.now);
+    next.recorder = after;
+    refused(0, next)
+}
+
+// What a PFC frame does at A: a request is taken, anything else changes nothing.
+fn effect(found: Verdict, head: Head) -> Head
+    ensures { λ r. ⌜ r ≡ effectOf found head ⌝ }
+{
+    match found {
+        Verdict::Data => head,
+        Verdict::Refused(_) => head,
+        Verdict::Asks(request) => head.taken(request.e, frame::times_of(request)),
+    }
+}
+
+// Kind 06: the oldest PFC frame takes effect at A.
+fn take_effect(
+    watch: Watch,
+    bench: Bench,
+    ends: &mut [u64],
+    kinds: &mut [u64],
+    pfc_ends: &mut [u64],
+    octets: &mut [u8],
+) -> Stepped
+    requires { ⌜ Lent (memoryOf bench (now ends) (now kinds) (now «pfc_ends») (now octets)) ⌝ }
+    ensures { λ r. ⌜ Answers watch (memoryOf bench (now (ends .entry)) (now (kinds .entry)) (now («pfc_ends» .entry)) (now (octets .entry))) Record.TakeEffect (r .refusal) (memoryOf (r .bench) (now (ends .exit)) (now (kinds .exit)) (now («pfc_ends» .exit)) (now (octets .exit))) ⌝ }
+{
+    if none_ended(oldest(pfc_ends, bench.pfc_count), bench.now) {
+        return refused(37, bench);
+    }
+    let head = bench.head;
+    let found = frame::read(
+        &octets[..60],
+        watch.settings.largest,
+        [0x02, 0x00, 0x00, 0x00, 0x00, 0x0A],
+    );
+    let left = bench.pfc_count - 1;
+    let n = left as usize;
+    rows::shift(pfc_ends, n);
+    rows::shift_octets(octets, 60 * n);
+    let mut next = bench;
+    let after = effect(found, head);
+    next.head = after;
+    next.pfc_count = left;
+    refused(0, next)
+}
+
+// Kind 07: B's disk takes octets.
+fn take_octets(
+    watch: Watch,
+    bench: Bench,
+    ends: &mut [u64],
+    kinds: &mut [u64],
+    pfc_ends: &mut [u64],
+    octets: &mut [u8],
+    priority: u8,
+    count: u16,
+) -> Stepped
+    requires { ⌜ Lent (memoryOf bench (now ends) (now kinds) (now «pfc_ends») (now octets)) ⌝ }
+    ensures { λ r. ⌜ Answers watch (memoryOf bench (now (ends .entry)) (now (kinds .entry)) (now («pfc_ends» .entry)) (now (octets .entry))) (Record.TakeOctets priority count) (r .refusal) (memoryOf (r .bench) (now (ends .exit)) (now (kinds .exit)) (now («pfc_ends» .exit)) (now (octets .exit))) ⌝ }
+{
+    let r = bench.recorder;
+    let taking = recorder::watch::taken(r, watch, priority, count as u64, bench.now);
+    if taking.refusal != 0 {
+        return refused(taking.refusal, bench);
+    }
+    let mut next = bench;
+    let after = taking.recorder;
+    next.recorder = after;
+    refused(0, next)
+}
+
+// One record of the bench on lent arrays.
+pub(crate) fn step_lent(
+    watch: Watch,
+    bench: Bench,
+    ends: &mut [u64],
+    kinds: &mut [u64],
+    pfc_ends: &mut [u64],
+    octets: &mut [u8],
+    record: &[u8],
+) -> Stepped
+    requires { ⌜ Lent (memoryOf bench (now ends) (now kinds) (now «pfc_ends») (now octets)) ⌝ }
+    ensures { λ r. ⌜ Answers watch (memoryOf bench (now (ends .entry)) (now (kinds .entry)) (now («pfc_ends» .entry)) (now (octets .entry))) (decoded (now («record» .entry))) (r .refusal) (memoryOf (r .bench) (now (ends .exit)) (now (kinds .exit)) (now («pfc_ends» .exit)) (now (octets .exit))) ⌝ }
+{
+    let asked = crate::record::decode(record);
+    match asked {
+        Record::Wait(n) => wait_for(watch, bench, ends, kinds, pfc_ends, octets, n),
+        Record::StartData(priority, length) => {
+            start_data(
+                watch,
+                bench,
+                ends,
+                kinds,
+                pfc_ends,
+                octets,
+                priority,
+                length,
+            )
+        }
+        Record::Arrive => arrive(watch, bench, ends, kinds, pfc_ends, octets),
+        Record::StartOther(length) => start_other(
+            watch,
+            bench,
+            ends,
+            kinds,
+            pfc_ends,
+            octets,
+            length,
+        ),
+        Record::StartPfc => start_pfc(watch, bench, ends, kinds, pfc_ends, octets),
+        Record::TakeEffect => take_effect(watch, bench, ends, kinds, pfc_ends, octets),
+        Record::TakeOctets(priority, count) => {
+            take_octets(watch, bench, ends, kinds, pfc_ends, octets, priority, count)
+        }
+        Record::Refused(number) => refused(number, bench),
+    }
+}

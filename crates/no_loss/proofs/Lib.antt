@@ -1,0 +1,26 @@
+-- The theorems about whole runs (`NoLoss`, `Program`, `Progress`), and what they stand on.
+pub mod Accepting
+pub mod Asking
+pub mod Clearing
+pub mod Counters
+pub mod Counting
+pub mod Group
+pub mod GroupSteps
+pub mod Invariant
+pub mod Keeping
+pub mod Link
+pub mod LinkSteps
+pub mod Modes
+pub mod NearlyMet
+pub mod NoLoss
+pub mod Own
+pub mod Passing
+pub mod Program
+pub mod Progress
+pub mod Refusals
+pub mod Rooms
+pub mod Rows
+pub mod Run
+pub mod Terms
+pub mod Waiting
+pub mod Watches

@@ -1,0 +1,2 @@
+-- What the theorems about whole runs speak through.
+pub mod Runs
