@@ -1,0 +1,2 @@
+-- The table of document 01's proved cases.
+pub mod Table

@@ -1,0 +1,1 @@
+// Document 01's cases marked P, in one table under one theorem. No functions.
