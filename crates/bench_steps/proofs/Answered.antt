@@ -21,7 +21,9 @@ use Rattle.recorder.specs.declared.watch.Recorder.{Recorder}
 use Rattle.recorder.specs.Watching.{timesFor, arrivedAt, startedAt, takenAt, taking, refreshOf, withDue}
 use Rattle.recorder.specs.declared.watch.Taking.{Taking}
 use Rattle.frame.specs.declared.Verdict.{Verdict}
-use Rattle.bench_steps.specs.Answers.{memoryOf, Lent, memoryFor, Answers}
+use Rattle.bench_steps.specs.Answers.{memoryOf, Lent, memoryFor, Answers, clampedBench, answerOf}
+use Rattle.bench_steps.specs.Records.{decoded}
+use Rattle.bench_steps.specs.declared.step.Answer.{Answer}
 use Rattle.bench_steps.specs.Chains.{lengthRefused, startDataNumber, startOtherNumber, startPfcNumber, oldestOf, noneEnded, overrunBy}
 use Rattle.bench_steps.specs.Held.{kindOf, dataHeld, pfcHeld, over, octetsOf, shifted, viewOf, holding}
 use Rattle.bench_steps.specs.State.{DataFrame, PfcFrame, State}
@@ -36,8 +38,8 @@ use Rattle.bench_steps.specs.Walk.{walkedBy}
 use Rattle.bench_steps.specs.declared.wait.Walk.{Walk}
 use Rattle.bench_steps.specs.declared.state.Bench.{Bench}
 use Rattle.bench_steps.specs.declared.state.Memory.{Memory}
-use Rattle.bench_steps.proofs.DataHeld.{dataFrame, dataEnds, dataKinds, data-count, data-front, data-ends-stay, data-kinds-stay, data-ends-pushed, data-kinds-pushed, data-ends-left, data-kinds-left}
-use Rattle.bench_steps.proofs.PfcHeld.{pfcFrame, pfcEnds, octetsPushed, pfc-count, pfc-front, pfc-ends-stay, pfc-octets-stay, pfc-ends-pushed, pfc-octets-pushed, pfc-ends-left, pfc-octets-left}
+use Rattle.bench_steps.proofs.DataHeld.{dataFrame, dataEnds, dataKinds, data-count, data-clamp, data-front, data-ends-stay, data-kinds-stay, data-ends-pushed, data-kinds-pushed, data-ends-left, data-kinds-left}
+use Rattle.bench_steps.proofs.PfcHeld.{pfcFrame, pfcEnds, octetsPushed, pfc-count, pfc-clamp, pfc-front, pfc-ends-stay, pfc-octets-stay, pfc-ends-pushed, pfc-octets-pushed, pfc-ends-left, pfc-octets-left}
 
 -- a refused record leaves the memory as it was
 pub refused-answers : (w : Watch) (m : Memory) (asked : Record) (number : ℕ) → Lent m → number ≡ refusalOf w (viewOf m) asked → (number ≡ 0 → ⊥) → Answers w m asked number m
@@ -514,3 +516,49 @@ module _ (w : Watch) (m : Memory) (lent : Lent m) where
 -- an answer to what is asked is one to whatever asks the same
 pub answers-asked : {w : Watch} {m then : Memory} {number : ℕ} {asked same : Record} → same ≡ asked → Answers w m asked number then → Answers w m same number then
 answers-asked {w} {m} {then} {number} is answers = subst (λ (a : Record). Answers w m a number then) (sym is) answers
+
+-- a state that says more frames than its arrays hold is seen as one with as many as they hold
+abbrev pub clampedMemory : Memory → Memory
+clampedMemory m = memoryOf (clampedBench (m .bench)) (m .«data_ends») (m .«data_kinds») (m .«pfc_ends») (m .«pfc_octets»)
+
+clamped-view : (m : Memory) → length (m .«data_ends») ≡ 128 → length (m .«data_kinds») ≡ 128 → length (m .«pfc_ends») ≡ 128 → viewOf (clampedMemory m) ≡ viewOf m
+unfolding viewOf
+clamped-view m ends kinds pends =
+    λ i. record {
+      now = m .bench .now;
+      head = m .bench .head;
+      recorder = m .bench .recorder;
+      aFree = m .bench .«a_free»;
+      bFree = m .bench .«b_free»;
+      dataRow = sym (data-clamp (m .bench .«data_count») (m .«data_ends») (m .«data_kinds») ends kinds) i;
+      pfcRow = sym (pfc-clamp (m .bench .«pfc_count») (m .«pfc_ends») (m .«pfc_octets») pends) i;
+    }
+
+module _ (w : Watch) (m : Memory) (octets : List ℕ) (number : ℕ) (then : Memory) (ends : length (m .«data_ends») ≡ 128) (kinds : length (m .«data_kinds») ≡ 128) (pends : length (m .«pfc_ends») ≡ 128) (answers : Answers w (clampedMemory m) (decoded octets) number then) where
+  number-answered : number ≡ refusalOf w (viewOf m) (decoded octets)
+  number-answered =
+      answers .number-is ∙ ap (λ (s : State). refusalOf w s (decoded octets)) (clamped-view m ends kinds pends)
+
+  pub step-refused : (number ≡ 0 → ⊥) → _≡_ {A = Answer} (record { refusal = number; memory = m }) (answerOf w m octets)
+  unfolding answerOf memoryFor
+  step-refused nonzero =
+      λ i. record {
+        refusal = number-answered i;
+        memory = sym (pick-no (holding m (nextOf w (viewOf m) (decoded octets))) m (ap (λ (k : ℕ). eqb k 0) (sym number-answered) ∙ ne-eqb number 0 nonzero)) i;
+      }
+
+  pub step-accepted : number ≡ 0 → _≡_ {A = Answer} (record { refusal = 0; memory = then }) (answerOf w m octets)
+  unfolding answerOf memoryFor holding
+  step-accepted zero-number =
+      λ i. record {
+        refusal = (sym zero-number ∙ number-answered) i;
+        memory =
+            (answers .memory-is ∙
+            ap (λ (s : State). pick (eqb (refusalOf w s (decoded octets)) 0) (holding m (nextOf w s (decoded octets))) (clampedMemory m)) (clamped-view m ends kinds pends) ∙
+            pick-yes (holding m (nextOf w (viewOf m) (decoded octets))) (clampedMemory m) (eq-eqb (refusalOf w (viewOf m) (decoded octets)) 0 (sym number-answered ∙ zero-number)) ∙
+            sym (pick-yes (holding m (nextOf w (viewOf m) (decoded octets))) m (eq-eqb (refusalOf w (viewOf m) (decoded octets)) 0 (sym number-answered ∙ zero-number)))) i;
+      }
+
+pub clamp-answers : {w : Watch} {asked : Record} {number : ℕ} {then : Memory} (m : Memory) (b : Bench) → b ≡ clampedBench (m .bench) → Answers w (memoryOf b (m .«data_ends») (m .«data_kinds») (m .«pfc_ends») (m .«pfc_octets»)) asked number then → Answers w (clampedMemory m) asked number then
+clamp-answers {w} {asked} {number} {then} m b is answers =
+    subst (λ (x : Bench). Answers w (memoryOf x (m .«data_ends») (m .«data_kinds») (m .«pfc_ends») (m .«pfc_octets»)) asked number then) is answers

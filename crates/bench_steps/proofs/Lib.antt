@@ -1,6 +1,7 @@
 -- Laws about the bench's definitions.
 pub mod Answered
 pub mod DataHeld
+pub mod Decided
 pub mod Decoding
 pub mod Moments
 pub mod Over

@@ -1,5 +1,5 @@
 -- What one step answers on a memory: the number, and the memory after it.
-use Prim.Native.Nat.{ℕ, _≤_}
+use Prim.Native.Nat.{ℕ, _≤_, min}
 use mathlib.Core.Path.{_≡_}
 use mathlib.Core.List.{List}
 use lib.ListN.{length}
@@ -11,6 +11,8 @@ use Rattle.bench_steps.specs.Step.{refusalOf, nextOf}
 use Rattle.bench_steps.specs.declared.record.Record.{Record}
 use Rattle.bench_steps.specs.declared.state.Bench.{Bench}
 use Rattle.bench_steps.specs.declared.state.Memory.{Memory}
+use Rattle.bench_steps.specs.declared.step.Answer.{Answer}
+use Rattle.bench_steps.specs.Records.{decoded}
 
 -- a memory of its parts
 abbrev pub memoryOf : Bench → List ℕ → List ℕ → List ℕ → List ℕ → Memory
@@ -34,3 +36,20 @@ pub record Answers (w : Watch) (m : Memory) (asked : Record) (number : ℕ) (the
   pub number-is : number ≡ refusalOf w (viewOf m) asked
   pub memory-is : then ≡ memoryFor w m asked
   pub lent : Lent then
+
+-- as many frames as the arrays can hold, where a state says more
+abbrev pub clampedBench : Bench → Bench
+clampedBench b =
+    record {
+      now = b .now;
+      head = b .head;
+      recorder = b .recorder;
+      «a_free» = b .«a_free»;
+      «b_free» = b .«b_free»;
+      «data_count» = min (b .«data_count») 128;
+      «pfc_count» = min (b .«pfc_count») 128;
+    }
+
+-- what a step on a whole state answers
+unfoldable pub answerOf : Watch → Memory → List ℕ → Answer
+answerOf w m octets = record { refusal = refusalOf w (viewOf m) (decoded octets); memory = memoryFor w m (decoded octets) }

@@ -3,6 +3,7 @@
 use crate::record::Record;
 use crate::rows;
 use crate::state::Bench;
+use crate::state::Memory;
 use crate::wait;
 use crate::wait::Walk;
 use frame::Verdict;
@@ -12,12 +13,12 @@ use recorder::watch::Recorder;
 use recorder::watch::Watch;
 ghost use mathlib.Core.Path.{_≡_};
 ghost use mathlib.Core.Bool.{Bool};
-ghost use Prim.Native.Nat.{_+_, _/_, _%_, _≤_};
+ghost use Prim.Native.Nat.{_+_, _/_, _%_, _≤_, min};
 ghost use mathlib.Core.List.{_++_};
 ghost use lib.ListN.{length, take, drop};
 ghost use Rattle.frame.specs.Build.{builtFrame};
 ghost use Rattle.recorder.specs.Watching.{arrivedAt};
-ghost use Rattle.bench_steps.specs.Answers.{Answers, Lent, memoryOf};
+ghost use Rattle.bench_steps.specs.Answers.{Answers, Lent, memoryOf, clampedBench, answerOf};
 ghost use Rattle.bench_steps.specs.Chains.{lengthRefused, oldestOf, noneEnded, overrunBy, startDataNumber, startOtherNumber, startPfcNumber};
 ghost use Rattle.bench_steps.specs.Step.{pastDue, notDue, effectOf, sourceB};
 ghost use Rattle.bench_steps.specs.Records.{decoded};
@@ -489,4 +490,91 @@ pub(crate) fn step_lent(
         }
         Record::Refused(number) => refused(number, bench),
     }
+}
+
+// What a step on a whole state answers: document 01's number, or 0, and the state, as it was where the number is not 0.
+pub struct Answer {
+    pub refusal: u8,
+    pub memory: Memory,
+}
+
+fn at_most_128(count: u64) -> u64
+    ensures { λ r. ⌜ r ≡ min count 128 ⌝ }
+{
+    if 128 < count { 128 } else { count }
+}
+
+// No more frames under way than the arrays hold.
+fn clamped(bench: Bench) -> Bench
+    ensures { λ r. ⌜ r ≡ clampedBench bench ⌝ }
+{
+    let mut next = bench;
+    next.data_count = at_most_128(bench.data_count);
+    next.pfc_count = at_most_128(bench.pfc_count);
+    next
+}
+
+// One record on the parts of a state: its arrays, and what goes by value beside them.
+fn step_of(
+    data_ends: [u64; 128],
+    data_kinds: [u64; 128],
+    last_ends: [u64; 128],
+    frames: [u8; 7680],
+    bench: Bench,
+    watch: Watch,
+    record: &[u8],
+) -> Answer
+    ensures { λ r. ⌜ r ≡ answerOf watch (memoryOf bench «data_ends» «data_kinds» «last_ends» frames) (now («record» .entry)) ⌝ }
+{
+    let mut ends = data_ends;
+    let mut kinds = data_kinds;
+    let mut pfc_ends = last_ends;
+    let mut octets = frames;
+    let held = clamped(bench);
+    let said = step_lent(
+        watch,
+        held,
+        &mut ends,
+        &mut kinds,
+        &mut pfc_ends,
+        &mut octets,
+        record,
+    );
+    if said.refusal != 0 {
+        let memory = Memory {
+            bench,
+            data_ends,
+            data_kinds,
+            pfc_ends: last_ends,
+            pfc_octets: frames,
+        };
+        return Answer {
+            refusal: said.refusal,
+            memory,
+        };
+    }
+    let next = said.bench;
+    let after = Memory {
+        bench: next,
+        data_ends: ends,
+        data_kinds: kinds,
+        pfc_ends,
+        pfc_octets: octets,
+    };
+    Answer {
+        refusal: 0,
+        memory: after,
+    }
+}
+
+// One record of the bench, any octets of any length, on a state by value: the number, or 0, and the next state, or the state as it was.
+pub fn step(watch: Watch, memory: Memory, record: &[u8]) -> Answer
+    ensures { λ r. ⌜ r ≡ answerOf watch memory (now («record» .entry)) ⌝ }
+{
+    let ends = memory.data_ends;
+    let kinds = memory.data_kinds;
+    let pfc_ends = memory.pfc_ends;
+    let octets = memory.pfc_octets;
+    let bench = memory.bench;
+    step_of(ends, kinds, pfc_ends, octets, bench, watch, record)
 }

@@ -33,6 +33,12 @@ use Rattle.bench_steps.specs.declared.run.Report.{Report}
 use Rattle.no_loss.specs.Runs.{watchOf, after}
 use Rattle.no_loss.proofs.Watches.{enabled-below}
 use Rattle.no_loss.proofs.NoLoss.{no-loss}
+use contract.Lifetimes.{Lfts}
+use borrow.Fn.Kinds.{Dens, resT, endedOf}
+use denote.Triple.Clauses.{AtExit}
+use denote.Ref.{now}
+use Rattle.bench_steps.proofs.run.run.Kinds as run-kinds
+use Rattle.bench_steps.proofs.run.run.Reads as run
 
 -- rooms are those after some list of records
 abbrev After : Watch → State → List Room → Type 0
@@ -135,3 +141,12 @@ nothing-lost-in-a-run input octets priority =
     (either-keeps s priority _ _ _
     (settled-keeps input (omega (arith, octets 16, octets 17)) priority (settling s) refl)
     (λ on. absurd (none-enabled priority on)))
+
+-- The same of the function's own contract: whatever it permits the program's run to answer has lost nothing. There is no gap between the
+-- definition and the code.
+pub program-loses-nothing : (κs : Lfts 1) (args : Dens κs run-kinds.ps) (answer : resT run-kinds.r κs .Denot) (exit : AtExit (endedOf 1 run-kinds.ps run-kinds.r) κs) → run.Post κs args answer exit → ((n : ℕ) → getD (now (args .0)) n 0 < 256) → (priority : ℕ) → isEnabled (answer .enabled) priority ≡ true → (getD (answer .rooms) priority emptyRoom .dropped ≡ 0) × (getD (answer .rooms) priority emptyRoom .worst ≤ headroomOf (settingsIn (now (args .0))))
+program-loses-nothing κs args answer exit promised octets priority =
+    subst
+    (λ (r : Report). isEnabled (r .enabled) priority ≡ true → (getD (r .rooms) priority emptyRoom .dropped ≡ 0) × (getD (r .rooms) priority emptyRoom .worst ≤ headroomOf (settingsIn (now (args .0)))))
+    (sym promised)
+    (nothing-lost-in-a-run (now (args .0)) octets priority)
