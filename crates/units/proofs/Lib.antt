@@ -1,0 +1,2 @@
+-- Laws about the units.
+pub mod Decided
