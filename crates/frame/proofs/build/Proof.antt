@@ -1,3 +1,4 @@
+-- `frame::build` meets its contract. Assumes nothing.
 use mathlib.Core.Path.{_∙_}
 use denote.Ref.{now}
 use Rattle.frame.proofs.Building.{written-buffer}
@@ -7,42 +8,30 @@ use Rattle.frame.specs.Build.{buildVerdict, bufferFor}
 use borrow.Author.Needs.{needs}
 use Rattle.frame.proofs.build.Statement.{statement}
 use Rattle.frame.proofs.build.Tie as tie
-use Rattle.frame.proofs.build.Reads as reads
-use Rattle.frame.proofs.build.Lts as lts
-use Rattle.bytes.proofs.copy.Reads as copy-reads
-use Rattle.frame.proofs.octets.Reads as octets-reads
 
--- src/lib.rt:187:9
 returns : tie.Need-returns
 unfolding pick buildVerdict bufferFor
 returns c = search tests
 
--- src/lib.rt:189:8
 array-read-if2 : tie.Need-array-read-if2
 array-read-if2 c = search needs
 
--- src/lib.rt:190:9
 returns-2 : tie.Need-returns-2
 unfolding pick buildVerdict bufferFor
 returns-2 c = search tests
 
--- src/lib.rt:192:16
 octets-requires : tie.Need-octets-requires
 octets-requires c κs = search needs
 
--- src/lib.rt:193:17
 slice-aggregate-copy : tie.Need-slice-aggregate-copy
 slice-aggregate-copy c = search needs
 
--- src/lib.rt:193:5
 copy-requires : tie.Need-copy-requires
 copy-requires c κs = search needs
 
--- src/lib.rt:183:1
 same-length : tie.Need-same-length
 same-length c = search needs
 
--- src/lib.rt:183:1
 returns-3 : tie.Need-returns-3
 unfolding pick buildVerdict bufferFor
 returns-3 c =

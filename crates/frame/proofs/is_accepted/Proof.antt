@@ -1,17 +1,14 @@
+-- `frame::is_accepted` meets its contract. Assumes nothing.
 use Rattle.ground.specs.Pick.{pick}
 use Rattle.ground.proofs.Tests.{tests}
 use Rattle.frame.specs.Read.{isAccepted}
 use Rattle.frame.proofs.is_accepted.Statement.{statement}
 use Rattle.frame.proofs.is_accepted.Tie as tie
-use Rattle.frame.proofs.is_accepted.Reads as reads
-use Rattle.frame.proofs.is_accepted.Lts as lts
 
--- src/lib.rt:80:9
 returns : tie.Need-returns
 unfolding pick isAccepted
 returns c = search tests
 
--- src/lib.rt:76:1
 returns-2 : tie.Need-returns-2
 unfolding pick isAccepted
 returns-2 c = search tests

@@ -1,3 +1,4 @@
+-- `frame::part` meets its contract. Assumes nothing.
 use denote.Ref.{now}
 use mathlib.Core.Path.{sym, _∙_}
 use native.Mathlib.Omega.{arith}
@@ -6,55 +7,40 @@ use Rattle.frame.proofs.Reading.{data-is-sized, data-part, request-part
 use borrow.Author.Needs.{needs}
 use Rattle.frame.proofs.part.Statement.{statement}
 use Rattle.frame.proofs.part.Tie as tie
-use Rattle.frame.proofs.part.Reads as reads
-use Rattle.frame.proofs.part.Lts as lts
-use Rattle.frame.proofs.read.Reads as read-reads
 
--- src/lib.rt:150:9
 read-requires : tie.Need-read-requires
 read-requires c κs = search needs
 
--- src/lib.rt:152:26
 enum-told : tie.Need-enum-told
 enum-told c = search needs
 
--- src/lib.rt:152:26
 sub-result : tie.Need-sub-result
 sub-result c = omega (arith, data-is-sized _ _ _ (sym (c .before .before .read .ensures) ∙ c .enum-told .given .1) .whole)
 
--- src/lib.rt:152:26
 part-result-start : tie.Need-part-result-start
 part-result-start c = omega (arith, data-is-sized _ _ _ (sym (c .before .before .read .ensures) ∙ c .enum-told .given .1) .whole)
 
--- src/lib.rt:152:26
 part-result-end : tie.Need-part-result-end
 part-result-end c = search needs
 
--- src/lib.rt:153:29
 enum-told-2 : tie.Need-enum-told-2
 enum-told-2 c = search needs
 
--- src/lib.rt:153:29
 slice-aggregate-result : tie.Need-slice-aggregate-result
 slice-aggregate-result c = search needs
 
--- src/lib.rt:154:32
 enum-told-3 : tie.Need-enum-told-3
 enum-told-3 c = search needs
 
--- src/lib.rt:154:32
 slice-aggregate-result-2 : tie.Need-slice-aggregate-result-2
 slice-aggregate-result-2 c = search needs
 
--- src/lib.rt:147:1
 returns : tie.Need-returns
 returns c = take-rest 12 (now (c .before .before .before .before .before .args .frame)) ∙ sym (data-part _ _ _ (sym (c .before .before .before .read .ensures) ∙ c .before .enum-told .given .1))
 
--- src/lib.rt:147:1
 returns-2 : tie.Need-returns-2
 returns-2 c = sym (request-part _ _ _ (sym (c .before .before .before .read .ensures) ∙ c .before .enum-told2 .given .1))
 
--- src/lib.rt:147:1
 returns-3 : tie.Need-returns-3
 returns-3 c = sym (refused-part _ _ _ (sym (c .before .before .before .read .ensures) ∙ c .before .enum-told3 .given .1))
 

@@ -1,3 +1,4 @@
+-- `frame::read` meets its contract. Assumes nothing.
 use denote.Ref.{now}
 use Prim.Native.Nat.{ℕ}
 use mathlib.Core.Path.{ap, sym, _∙_}
@@ -10,54 +11,38 @@ use Rattle.frame.proofs.Reading.{sized}
 use borrow.Author.Needs.{needs}
 use Rattle.frame.proofs.read.Statement.{statement}
 use Rattle.frame.proofs.read.Tie as tie
-use Rattle.frame.proofs.read.Reads as reads
-use Rattle.frame.proofs.read.Lts as lts
-use Rattle.frame.proofs.address.Reads as address-reads
-use Rattle.frame.proofs.size_refusal.Reads as size-refusal-reads
-use Rattle.frame.proofs.whole.Reads as whole-reads
 
--- src/lib.rt:139:9
 size-refusal-requires : tie.Need-size-refusal-requires
 size-refusal-requires c κs = search needs
 
--- src/lib.rt:141:9
 returns : tie.Need-returns
 unfolding verdict
 returns c = ap Refused (c .before .size-refusal .ensures) ∙ sym (pick-no _ _ (ap (λ (k : ℕ). eqb k 0) (sym (c .before .size-refusal .ensures)) ∙ ne-eqb (c .before .size-refusal .result) 0 (c .if1 .taken)))
 
--- src/lib.rt:143:19
 array-read-address : tie.Need-array-read-address
 array-read-address c = search needs
 
--- src/lib.rt:143:27
 array-read-address-2 : tie.Need-array-read-address-2
 array-read-address-2 c = search needs
 
--- src/lib.rt:143:35
 array-read-address-3 : tie.Need-array-read-address-3
 array-read-address-3 c = search needs
 
--- src/lib.rt:143:43
 array-read-address-4 : tie.Need-array-read-address-4
 array-read-address-4 c = search needs
 
--- src/lib.rt:143:51
 array-read-address-5 : tie.Need-array-read-address-5
 array-read-address-5 c = search needs
 
--- src/lib.rt:143:59
 array-read-address-6 : tie.Need-array-read-address-6
 array-read-address-6 c = search needs
 
--- src/lib.rt:143:11
 address-requires : tie.Need-address-requires
 address-requires c κs = search needs
 
--- src/lib.rt:143:5
 whole-requires : tie.Need-whole-requires
 whole-requires c κs = sized _ _ (sym (c .before .before .size-refusal .ensures) ∙ c .before .if1 .left) .whole
 
--- src/lib.rt:136:1
 returns-2 : tie.Need-returns-2
 unfolding verdict
 returns-2 c =

@@ -1,3 +1,4 @@
+-- `frame::whole` meets its contract. Assumes nothing.
 use Prim.Native.Nat.{ℕ}
 use mathlib.Core.Path.{ap, sym, _∙_}
 use lib.Dec.{eqb}
@@ -7,25 +8,17 @@ use Rattle.frame.specs.Read.{wholeVerdict}
 use borrow.Author.Needs.{needs}
 use Rattle.frame.proofs.whole.Statement.{statement}
 use Rattle.frame.proofs.whole.Tie as tie
-use Rattle.frame.proofs.whole.Reads as reads
-use Rattle.frame.proofs.whole.Lts as lts
-use Rattle.frame.proofs.control.Reads as control-reads
-use Rattle.frame.proofs.word.Reads as word-reads
 
--- src/lib.rt:128:8
 word-requires : tie.Need-word-requires
 word-requires c κs = search needs
 
--- src/lib.rt:129:9
 returns : tie.Need-returns
 unfolding wholeVerdict
 returns c = sym (pick-no _ _ (ap (λ (k : ℕ). eqb k 0x8808) (sym (c .before .word .ensures)) ∙ ne-eqb (c .before .word .result) 0x8808 (c .if1 .taken)))
 
--- src/lib.rt:131:5
 control-requires : tie.Need-control-requires
 control-requires c κs = search needs
 
--- src/lib.rt:124:1
 returns-2 : tie.Need-returns-2
 unfolding wholeVerdict
 returns-2 c = c .control .ensures ∙ sym (pick-yes _ _ (ap (λ (k : ℕ). eqb k 0x8808) (sym (c .before .before .word .ensures)) ∙ eq-eqb (c .before .before .word .result) 0x8808 (c .before .if1 .left)))

@@ -1,3 +1,4 @@
+-- `bench_steps::record::body` meets its contract. Assumes nothing.
 use Rattle.bench_steps.specs.declared.record.Record.the-variants.{Wait, StartData, StartOther, TakeOctets}
 use Rattle.bench_steps.specs.Records.{bodyOf}
 use Rattle.ground.proofs.Pick.{pick-no}
@@ -9,66 +10,49 @@ use Prim.Native.Nat.{ℕ}
 use borrow.Author.Needs.{needs}
 use Rattle.bench_steps.proofs.record.body.Statement.{statement}
 use Rattle.bench_steps.proofs.record.body.Tie as tie
-use Rattle.bench_steps.proofs.record.body.Reads as reads
-use Rattle.bench_steps.proofs.record.body.Lts as lts
-use Rattle.bench_steps.proofs.record.octet_at.Reads as octet-at-reads
-use Rattle.bench_steps.proofs.record.word_at.Reads as word-at-reads
 
--- src/record.rt:98:29
 word-at-requires : tie.Need-word-at-requires
 word-at-requires c κs = search needs
 
--- src/record.rt:98:9
 returns : tie.Need-returns
 unfolding pick bodyOf
 returns c = ap Wait (c .word-at .ensures) ∙ sym (ap (λ (k : ℕ). bodyOf k (now (c .before .before .before .args .octets))) (c .before .if1 .taken))
 
--- src/record.rt:101:34
 octet-at-requires : tie.Need-octet-at-requires
 octet-at-requires c κs = search needs
 
--- src/record.rt:101:55
 word-at-requires-2 : tie.Need-word-at-requires-2
 word-at-requires-2 c κs = search needs
 
--- src/record.rt:101:9
 returns-2 : tie.Need-returns-2
 unfolding pick bodyOf
 returns-2 c = ap₂ StartData (c .before .octet-at .ensures) (c .word-at2 .ensures) ∙ sym (ap (λ (k : ℕ). bodyOf k (now (c .before .before .before .before .before .args .octets))) (c .before .before .if2 .taken))
 
--- src/record.rt:104:9
 returns-3 : tie.Need-returns-3
 unfolding pick bodyOf
 returns-3 c = sym (ap (λ (k : ℕ). bodyOf k (now (c .before .before .before .before .args .octets))) (c .if3 .taken))
 
--- src/record.rt:107:35
 word-at-requires-3 : tie.Need-word-at-requires-3
 word-at-requires-3 c κs = search needs
 
--- src/record.rt:107:9
 returns-4 : tie.Need-returns-4
 unfolding pick bodyOf
 returns-4 c = ap StartOther (c .word-at3 .ensures) ∙ sym (ap (λ (k : ℕ). bodyOf k (now (c .before .before .before .before .before .before .args .octets))) (c .before .if4 .taken))
 
--- src/record.rt:110:9
 returns-5 : tie.Need-returns-5
 unfolding pick bodyOf
 returns-5 c = sym (ap (λ (k : ℕ). bodyOf k (now (c .before .before .before .before .before .before .args .octets))) (c .if5 .taken))
 
--- src/record.rt:113:9
 returns-6 : tie.Need-returns-6
 unfolding pick bodyOf
 returns-6 c = sym (ap (λ (k : ℕ). bodyOf k (now (c .before .before .before .before .before .before .before .args .octets))) (c .if6 .taken))
 
--- src/record.rt:115:24
 octet-at-requires-2 : tie.Need-octet-at-requires-2
 octet-at-requires-2 c κs = search needs
 
--- src/record.rt:115:45
 word-at-requires-4 : tie.Need-word-at-requires-4
 word-at-requires-4 c κs = search needs
 
--- src/record.rt:94:1
 returns-7 : tie.Need-returns-7
 unfolding bodyOf
 returns-7 c = ap₂ TakeOctets (c .before .octet-at2 .ensures) (c .word-at4 .ensures) ∙ sym (pick-no _ _ (ne-eqb (c .before .before .before .before .before .before .before .before .before .args .kind) 1 (c .before .before .before .before .before .before .before .if1 .left)) ∙ pick-no _ _ (ne-eqb (c .before .before .before .before .before .before .before .before .before .args .kind) 2 (c .before .before .before .before .before .before .if2 .left)) ∙ pick-no _ _ (ne-eqb (c .before .before .before .before .before .before .before .before .before .args .kind) 3 (c .before .before .before .before .before .if3 .left)) ∙ pick-no _ _ (ne-eqb (c .before .before .before .before .before .before .before .before .before .args .kind) 4 (c .before .before .before .before .if4 .left)) ∙ pick-no _ _ (ne-eqb (c .before .before .before .before .before .before .before .before .before .args .kind) 5 (c .before .before .before .if5 .left)) ∙ pick-no _ _ (ne-eqb (c .before .before .before .before .before .before .before .before .before .args .kind) 6 (c .before .before .if6 .left)))

@@ -1,37 +1,30 @@
+-- `bench_steps::record::body_length` meets its contract. Assumes nothing.
 use Rattle.bench_steps.specs.Records.{bodyLength}
 use Rattle.ground.proofs.Tests.{tests}
 use Rattle.ground.specs.Pick.{pick}
 use Rattle.bench_steps.proofs.record.body_length.Statement.{statement}
 use Rattle.bench_steps.proofs.record.body_length.Tie as tie
-use Rattle.bench_steps.proofs.record.body_length.Reads as reads
-use Rattle.bench_steps.proofs.record.body_length.Lts as lts
 
--- src/record.rt:77:9
 returns : tie.Need-returns
 unfolding pick bodyLength
 returns c = search tests
 
--- src/record.rt:80:9
 returns-2 : tie.Need-returns-2
 unfolding pick bodyLength
 returns-2 c = search tests
 
--- src/record.rt:83:9
 returns-3 : tie.Need-returns-3
 unfolding pick bodyLength
 returns-3 c = search tests
 
--- src/record.rt:86:9
 returns-4 : tie.Need-returns-4
 unfolding pick bodyLength
 returns-4 c = search tests
 
--- src/record.rt:89:9
 returns-5 : tie.Need-returns-5
 unfolding pick bodyLength
 returns-5 c = search tests
 
--- src/record.rt:73:1
 returns-6 : tie.Need-returns-6
 unfolding pick bodyLength
 returns-6 c = search tests

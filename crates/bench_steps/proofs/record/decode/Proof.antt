@@ -1,3 +1,4 @@
+-- `bench_steps::record::decode` meets its contract. Assumes nothing.
 use Rattle.bench_steps.specs.declared.record.Record.the-variants.{Refused}
 use Rattle.bench_steps.specs.Records.{bodyOf, sizedRefusal, octetsRefusal, decoded}
 use Rattle.frame.specs.Layout.{octetAt}
@@ -11,30 +12,19 @@ use Prim.Native.Nat.{ℕ, _+_}
 use borrow.Author.Needs.{needs}
 use Rattle.bench_steps.proofs.record.decode.Statement.{statement}
 use Rattle.bench_steps.proofs.record.decode.Tie as tie
-use Rattle.bench_steps.proofs.record.decode.Reads as reads
-use Rattle.bench_steps.proofs.record.decode.Lts as lts
-use Rattle.bench_steps.proofs.record.body.Reads as body-reads
-use Rattle.bench_steps.proofs.record.body_length.Reads as body-length-reads
-use Rattle.bench_steps.proofs.record.octet_at.Reads as octet-at-reads
-use Rattle.bench_steps.proofs.record.refusal.Reads as refusal-reads
 
--- src/record.rt:142:9
 octet-at-requires : tie.Need-octet-at-requires
 octet-at-requires c κs = search needs
 
--- src/record.rt:143:50
 body-length-requires : tie.Need-body-length-requires
 body-length-requires c κs = search needs
 
--- src/record.rt:143:46
 add-refusal : tie.Need-add-refusal
 add-refusal c = search needs
 
--- src/record.rt:143:9
 refusal-requires : tie.Need-refusal-requires
 refusal-requires c κs = search needs
 
--- src/record.rt:145:9
 returns : tie.Need-returns
 unfolding decoded
 returns c =
@@ -45,11 +35,9 @@ returns c =
     ap (λ (k : ℕ). octetsRefusal k (length o)) (c .before .before .before .octet-at .ensures) in
     ap Refused is ∙ sym (pick-no _ _ (ap (λ (k : ℕ). eqb k 0) (sym is) ∙ ne-eqb (c .before .refusal .result) 0 (c .if1 .taken)))
 
--- src/record.rt:147:5
 body-requires : tie.Need-body-requires
 body-requires c κs = search needs
 
--- src/record.rt:139:1
 returns-2 : tie.Need-returns-2
 unfolding decoded
 returns-2 c =

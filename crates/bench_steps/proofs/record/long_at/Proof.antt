@@ -1,3 +1,4 @@
+-- `bench_steps::record::long_at` meets its contract. Assumes nothing.
 use denote.Ref.{now}
 use lib.ListN.{List·getD-eq-default}
 use native.Mathlib.Omega.{arith}
@@ -5,44 +6,31 @@ use Prim.Native.Nat.{_+_}
 use borrow.Author.Needs.{needs}
 use Rattle.bench_steps.proofs.record.long_at.Statement.{statement}
 use Rattle.bench_steps.proofs.record.long_at.Tie as tie
-use Rattle.bench_steps.proofs.record.long_at.Reads as reads
-use Rattle.bench_steps.proofs.record.long_at.Lts as lts
-use Rattle.bench_steps.proofs.record.long.Reads as long-reads
-use Rattle.bench_steps.proofs.record.word_at.Reads as word-at-reads
 
--- src/record.rt:66:22
 word-at-requires : tie.Need-word-at-requires
 word-at-requires c κs = search needs
 
--- src/record.rt:66:17
 long-requires : tie.Need-long-requires
 long-requires c κs = search needs
 
--- src/record.rt:66:9
 mul-result : tie.Need-mul-result
 mul-result c = search needs
 
--- src/record.rt:66:69
 add-word-at : tie.Need-add-word-at
 add-word-at c = search needs
 
--- src/record.rt:66:53
 word-at-requires-2 : tie.Need-word-at-requires-2
 word-at-requires-2 c κs = search needs
 
--- src/record.rt:66:48
 long-requires-2 : tie.Need-long-requires-2
 long-requires-2 c κs = search needs
 
--- src/record.rt:66:9
 add-result : tie.Need-add-result
 add-result c = search needs
 
--- src/record.rt:62:1
 returns : tie.Need-returns
 returns c = search needs
 
--- src/record.rt:62:1
 returns-2 : tie.Need-returns-2
 returns-2 c = omega (arith, List·getD-eq-default (now (c .before .before .args .octets)) 0 {n = c .before .before .args .place} (omega arith), List·getD-eq-default (now (c .before .before .args .octets)) 0 {n = c .before .before .args .place + 1} (omega arith), List·getD-eq-default (now (c .before .before .args .octets)) 0 {n = c .before .before .args .place + 2} (omega arith), List·getD-eq-default (now (c .before .before .args .octets)) 0 {n = c .before .before .args .place + 2 + 1} (omega arith))
 

@@ -1,21 +1,17 @@
+-- `bench_steps::record::octet_at` meets its contract. Assumes nothing.
 use denote.Ref.{now}
 use lib.ListN.{List·getD-eq-default}
 use mathlib.Core.Path.{sym}
 use borrow.Author.Needs.{needs}
 use Rattle.bench_steps.proofs.record.octet_at.Statement.{statement}
 use Rattle.bench_steps.proofs.record.octet_at.Tie as tie
-use Rattle.bench_steps.proofs.record.octet_at.Reads as reads
-use Rattle.bench_steps.proofs.record.octet_at.Lts as lts
 
--- src/record.rt:32:9
 shared-slice-read-result : tie.Need-shared-slice-read-result
 shared-slice-read-result c = search needs
 
--- src/record.rt:28:1
 returns : tie.Need-returns
 returns c = search needs
 
--- src/record.rt:28:1
 returns-2 : tie.Need-returns-2
 returns-2 c = sym (List·getD-eq-default (now (c .before .args .octets)) 0 (c .if1 .left))
 

@@ -1,32 +1,26 @@
+-- `bench_steps::record::refusal` meets its contract. Assumes nothing.
 use Rattle.bench_steps.specs.Records.{sizedRefusal}
 use Rattle.ground.proofs.Tests.{tests}
 use Rattle.ground.specs.Pick.{pick}
 use Rattle.bench_steps.proofs.record.refusal.Statement.{statement}
 use Rattle.bench_steps.proofs.record.refusal.Tie as tie
-use Rattle.bench_steps.proofs.record.refusal.Reads as reads
-use Rattle.bench_steps.proofs.record.refusal.Lts as lts
 
--- src/record.rt:124:9
 returns : tie.Need-returns
 unfolding pick sizedRefusal
 returns c = search tests
 
--- src/record.rt:127:9
 returns-2 : tie.Need-returns-2
 unfolding pick sizedRefusal
 returns-2 c = search tests
 
--- src/record.rt:130:9
 returns-3 : tie.Need-returns-3
 unfolding pick sizedRefusal
 returns-3 c = search tests
 
--- src/record.rt:133:9
 returns-4 : tie.Need-returns-4
 unfolding pick sizedRefusal
 returns-4 c = search tests
 
--- src/record.rt:120:1
 returns-5 : tie.Need-returns-5
 unfolding pick sizedRefusal
 returns-5 c = search tests

@@ -1,28 +1,23 @@
+-- `bench_steps::run::first_refusal` meets its contract. Assumes nothing.
 use Rattle.bench_steps.specs.Run.{firstRefusal}
 use Rattle.ground.proofs.Pick.{pick-yes, pick-no}
 use borrow.Author.Tests.{lt-ltb, le-ltb, eq-eqb, ne-eqb}
 use mathlib.Core.Path.{sym, _∙_}
 use Rattle.bench_steps.proofs.run.first_refusal.Statement.{statement}
 use Rattle.bench_steps.proofs.run.first_refusal.Tie as tie
-use Rattle.bench_steps.proofs.run.first_refusal.Reads as reads
-use Rattle.bench_steps.proofs.run.first_refusal.Lts as lts
 
--- src/run.rt:152:9
 returns : tie.Need-returns
 unfolding firstRefusal
 returns c = sym (pick-yes _ _ (lt-ltb _ _ (c .if1 .taken)))
 
--- src/run.rt:155:9
 returns-2 : tie.Need-returns-2
 unfolding firstRefusal
 returns-2 c = sym (pick-no _ _ (le-ltb _ _ (c .before .if1 .left)) ∙ pick-no _ _ (ne-eqb _ _ (c .if2 .taken)))
 
--- src/run.rt:158:9
 returns-3 : tie.Need-returns-3
 unfolding firstRefusal
 returns-3 c = sym (pick-no _ _ (le-ltb _ _ (c .before .before .if1 .left)) ∙ pick-yes _ _ (eq-eqb _ _ (c .before .if2 .left)) ∙ pick-yes _ _ (lt-ltb _ _ (c .if3 .taken)))
 
--- src/run.rt:148:1
 returns-4 : tie.Need-returns-4
 unfolding firstRefusal
 returns-4 c = sym (pick-no _ _ (le-ltb _ _ (c .before .before .if1 .left)) ∙ pick-yes _ _ (eq-eqb _ _ (c .before .if2 .left)) ∙ pick-no _ _ (le-ltb _ _ (c .if3 .left)))

@@ -1,3 +1,4 @@
+-- `bench_steps::run::follow` meets its contract. Assumes nothing.
 use Rattle.bench_steps.proofs.Running.{starts, ended, stopped, went-on, accepted-zero, refused-nonzero}
 use Rattle.bench_steps.specs.declared.state.Bench.{Bench}
 use Rattle.bench_steps.specs.Run.{followOf, runFrom}
@@ -12,14 +13,6 @@ use mathlib.Core.Path.{_≡_, refl, sym, ap, _∙_}
 use Prim.Native.Nat.{ℕ, suc, _+_, _-_, _≤_}
 use Rattle.bench_steps.proofs.run.follow.Statement.{statement}
 use Rattle.bench_steps.proofs.run.follow.Tie as tie
-use Rattle.bench_steps.proofs.run.follow.Reads as reads
-use Rattle.bench_steps.proofs.run.follow.Lts as lts
-use Rattle.bench_steps.proofs.record.body_length.Reads as body-length-reads
-use Rattle.bench_steps.proofs.record.octet_at.Reads as octet-at-reads
-use Rattle.bench_steps.proofs.run.empty_bench.Reads as empty-bench-reads
-use Rattle.bench_steps.proofs.run.outcome_of.Reads as outcome-of-reads
-use Rattle.bench_steps.proofs.run.report_of.Reads as report-of-reads
-use Rattle.bench_steps.proofs.step.step_lent.Reads as step-lent-reads
 
 abbrev Inv-loop : tie.InvT-loop
 Inv-loop watch octets bench₀ ends₀ kinds₀ pfc-ends₀ frames₀ at₀ steps₀ bench ends kinds pfc-ends frames at steps =
@@ -29,11 +22,9 @@ abbrev μ-loop : tie.MeasureT-loop
 μ-loop watch octets bench₀ ends₀ kinds₀ pfc-ends₀ frames₀ at₀ steps₀ bench ends kinds pfc-ends frames at steps =
     length octets - at
 
--- src/run.rt:119:9
 empty-bench-requires : tie.Need-empty-bench-requires Inv-loop μ-loop
 empty-bench-requires c κs = search needs
 
--- src/run.rt:126:5
 loop-holds : tie.Need-loop-holds Inv-loop μ-loop
 loop-holds c = (
   omega arith,
@@ -48,89 +39,69 @@ loop-holds c = (
   starts (c .before .before .args .watch) (c .before .before .pre) (now (c .before .before .args .octets)) _ _ _ _ _ (c .empty-bench .ensures),
 )
 
--- src/run.rt:130:13
 slice-aggregate-step-lent : tie.Need-slice-aggregate-step-lent Inv-loop μ-loop
 slice-aggregate-step-lent c = search needs
 
--- src/run.rt:131:13
 slice-aggregate-step-lent-2 : tie.Need-slice-aggregate-step-lent-2 Inv-loop μ-loop
 slice-aggregate-step-lent-2 c = search needs
 
--- src/run.rt:132:13
 slice-aggregate-step-lent-3 : tie.Need-slice-aggregate-step-lent-3 Inv-loop μ-loop
 slice-aggregate-step-lent-3 c = search needs
 
--- src/run.rt:133:13
 slice-aggregate-step-lent-4 : tie.Need-slice-aggregate-step-lent-4 Inv-loop μ-loop
 slice-aggregate-step-lent-4 c = search needs
 
--- src/run.rt:134:13
 sub-step-lent : tie.Need-sub-step-lent Inv-loop μ-loop
 sub-step-lent c = search needs
 
--- src/run.rt:134:13
 part-step-lent-start : tie.Need-part-step-lent-start Inv-loop μ-loop
 part-step-lent-start c = search needs
 
--- src/run.rt:134:13
 part-step-lent-end : tie.Need-part-step-lent-end Inv-loop μ-loop
 part-step-lent-end c = search needs
 
--- src/run.rt:127:13
 step-lent-requires : tie.Need-step-lent-requires Inv-loop μ-loop
 step-lent-requires c κs = c .before .before .before .before .before .before .loop .inv .1
 
--- src/run.rt:136:33
 outcome-of-requires : tie.Need-outcome-of-requires Inv-loop μ-loop
 outcome-of-requires c κs = search needs
 
 enum-told : tie.Need-enum-told Inv-loop μ-loop
 enum-told c = search needs
 
--- src/run.rt:137:82
 enum-told-2 : tie.Need-enum-told-2 Inv-loop μ-loop
 enum-told-2 c = search needs
 
--- src/run.rt:137:82
 add-report-of : tie.Need-add-report-of Inv-loop μ-loop
 add-report-of c = search needs
 
--- src/run.rt:137:13
 report-of-requires : tie.Need-report-of-requires Inv-loop μ-loop
 report-of-requires c κs = search needs
 
--- src/run.rt:137:13
 returns : tie.Need-returns Inv-loop μ-loop
 returns c =
     stopped (c .before .before .before .before .before .before .before .before .before .before .before .before .before .before .before .before .before .before .args .watch) (c .before .before .before .before .before .before .before .before .before .before .before .before .before .before .before .before .before .before .pre) (now (c .before .before .before .before .before .before .before .before .before .before .before .before .before .before .before .before .before .before .args .octets)) (c .before .before .before .before .before .before .before .before .before .before .before .before .before .before .before .loop .at) (c .before .before .before .before .before .before .before .before .before .before .before .before .before .before .before .loop .steps) (memoryOf (c .before .before .before .before .before .before .before .before .before .before .before .before .before .before .before .loop .bench) (c .before .before .before .before .before .before .before .before .before .before .before .before .before .before .before .loop .ends) (c .before .before .before .before .before .before .before .before .before .before .before .before .before .before .before .loop .kinds) (c .before .before .before .before .before .before .before .before .before .before .before .before .before .before .before .loop .pfc-ends) (c .before .before .before .before .before .before .before .before .before .before .before .before .before .before .before .loop .frames)) (c .before .before .before .before .before .before .before .before .before .before .before .before .before .before .before .loop .inv .1) (c .before .before .before .before .before .before .before .before .before .before .before .before .before .before .before .loop .inv .2) (c .before .before .before .before .before .before .before .before .before .before .before .before .before .before .before .loop .inv .0) _ _ (c .before .before .before .before .before .before .before .before .before .before .before .before .before .before .loop-test .taken) (c .before .before .before .before .before .before .before .before .step-lent .ensures) _
     (refused-nonzero _ _ (sym (c .before .before .before .outcome-of .ensures) ∙ c .before .enum-told2 .given .1))
     (c .report-of .ensures)
 
--- src/run.rt:141:14
 add-at : tie.Need-add-at Inv-loop μ-loop
 add-at c = search needs
 
--- src/run.rt:141:43
 octet-at-requires : tie.Need-octet-at-requires Inv-loop μ-loop
 octet-at-requires c κs = search needs
 
--- src/run.rt:141:23
 body-length-requires : tie.Need-body-length-requires Inv-loop μ-loop
 body-length-requires c κs = search needs
 
--- src/run.rt:141:14
 add-at-2 : tie.Need-add-at-2 Inv-loop μ-loop
 add-at-2 c = omega (arith, c .before .before .before .before .before .before .before .before .before .before .before .before .before .before .before .before .loop-test .taken, c .before .before .before .before .before .before .before .before .before .before .before .before .before .before .before .before .before .loop .inv .0, c .before .before .before .before .before .before .before .before .before .before .before .before .before .before .before .before .before .before .before .before .good, c .body-length .ensures)
 
--- src/run.rt:142:17
 add-steps : tie.Need-add-steps Inv-loop μ-loop
 add-steps c = omega (arith, c .before .before .before .before .before .before .before .before .before .before .before .before .before .before .before .before .loop-test .taken, c .before .before .before .before .before .before .before .before .before .before .before .before .before .before .before .before .before .loop .inv .0, c .before .before .before .before .before .before .before .before .before .before .before .before .before .before .before .before .before .before .before .before .good, c .body-length .ensures)
 
--- src/run.rt:126:5
 loop-less : tie.Need-loop-less Inv-loop μ-loop
 loop-less c = omega (arith, c .before .before .before .before .before .before .before .before .before .before .before .before .before .before .before .before .loop-test .taken, c .before .before .before .before .before .before .before .before .before .before .before .before .before .before .before .before .before .loop .inv .0, c .before .before .before .before .before .before .before .before .before .before .before .before .before .before .before .before .before .before .before .before .good, c .body-length .ensures)
 
--- src/run.rt:126:5
 loop-again : tie.Need-loop-again Inv-loop μ-loop
 loop-again c = (
   omega (arith, c .before .before .before .before .before .before .before .before .before .before .before .before .before .before .before .before .before .loop .inv .0),
@@ -141,11 +112,9 @@ loop-again c = (
       (c .body-length .ensures .0),
 )
 
--- src/run.rt:144:5
 report-of-requires-2 : tie.Need-report-of-requires-2 Inv-loop μ-loop
 report-of-requires-2 c κs = search needs
 
--- src/run.rt:115:1
 returns-2 : tie.Need-returns-2 Inv-loop μ-loop
 returns-2 c = ended (c .before .before .before .before .before .args .watch) (c .before .before .before .before .before .pre) (now (c .before .before .before .before .before .args .octets)) (c .before .before .loop .at) (c .before .before .loop .steps) (memoryOf (c .before .before .loop .bench) (c .before .before .loop .ends) (c .before .before .loop .kinds) (c .before .before .loop .pfc-ends) (c .before .before .loop .frames)) (c .before .before .loop .inv .1) (c .before .before .loop .inv .2) (c .before .before .loop .inv .0) _ (c .before .loop-test .left) (c .report-of2 .ensures)
 

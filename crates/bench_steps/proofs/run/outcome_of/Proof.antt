@@ -1,18 +1,15 @@
+-- `bench_steps::run::outcome_of` meets its contract. Assumes nothing.
 use Rattle.bench_steps.specs.Run.{outcomeOf}
 use Rattle.ground.proofs.Pick.{pick-yes, pick-no}
 use borrow.Author.Tests.{eq-eqb, ne-eqb}
 use mathlib.Core.Path.{sym}
 use Rattle.bench_steps.proofs.run.outcome_of.Statement.{statement}
 use Rattle.bench_steps.proofs.run.outcome_of.Tie as tie
-use Rattle.bench_steps.proofs.run.outcome_of.Reads as reads
-use Rattle.bench_steps.proofs.run.outcome_of.Lts as lts
 
--- src/run.rt:63:1
 returns : tie.Need-returns
 unfolding outcomeOf
 returns c = sym (pick-yes _ _ (eq-eqb _ _ (c .if1 .taken)))
 
--- src/run.rt:63:1
 returns-2 : tie.Need-returns-2
 unfolding outcomeOf
 returns-2 c = sym (pick-no _ _ (ne-eqb _ _ (c .if1 .left)))

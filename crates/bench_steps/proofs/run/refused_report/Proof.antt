@@ -1,23 +1,17 @@
+-- `bench_steps::run::refused_report` meets its contract. Assumes nothing.
 use Rattle.bench_steps.specs.declared.state.Bench.{Bench}
 use Rattle.bench_steps.specs.Run.{benchReport}
 use mathlib.Core.Path.{ap, _∙_}
 use borrow.Author.Needs.{needs}
 use Rattle.bench_steps.proofs.run.refused_report.Statement.{statement}
 use Rattle.bench_steps.proofs.run.refused_report.Tie as tie
-use Rattle.bench_steps.proofs.run.refused_report.Reads as reads
-use Rattle.bench_steps.proofs.run.refused_report.Lts as lts
-use Rattle.bench_steps.proofs.run.empty_bench.Reads as empty-bench-reads
-use Rattle.bench_steps.proofs.run.report_of.Reads as report-of-reads
 
--- src/run.rt:111:18
 empty-bench-requires : tie.Need-empty-bench-requires
 empty-bench-requires c κs = search needs
 
--- src/run.rt:111:5
 report-of-requires : tie.Need-report-of-requires
 report-of-requires c κs = search needs
 
--- src/run.rt:108:1
 returns : tie.Need-returns
 returns c = c .report-of .ensures ∙ ap (λ (b : Bench). benchReport 0 b 0 (c .before .before .args .number) 0) (c .before .empty-bench .ensures)
 

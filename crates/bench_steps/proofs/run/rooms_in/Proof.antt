@@ -1,3 +1,4 @@
+-- `bench_steps::run::rooms_in` meets its contract. Assumes nothing.
 use Rattle.bench_steps.specs.Records.{longAt}
 use Rattle.ground.proofs.Eight.{eight-is}
 use denote.Ref.{now}
@@ -5,43 +6,31 @@ use Prim.Native.Nat.{ℕ, _+_, _*_}
 use borrow.Author.Needs.{needs}
 use Rattle.bench_steps.proofs.run.rooms_in.Statement.{statement}
 use Rattle.bench_steps.proofs.run.rooms_in.Tie as tie
-use Rattle.bench_steps.proofs.run.rooms_in.Reads as reads
-use Rattle.bench_steps.proofs.run.rooms_in.Lts as lts
-use Rattle.bench_steps.proofs.record.long_at.Reads as long-at-reads
 
--- src/run.rt:35:9
 long-at-requires : tie.Need-long-at-requires
 long-at-requires c κs = search needs
 
--- src/run.rt:36:9
 long-at-requires-2 : tie.Need-long-at-requires-2
 long-at-requires-2 c κs = search needs
 
--- src/run.rt:37:9
 long-at-requires-3 : tie.Need-long-at-requires-3
 long-at-requires-3 c κs = search needs
 
--- src/run.rt:38:9
 long-at-requires-4 : tie.Need-long-at-requires-4
 long-at-requires-4 c κs = search needs
 
--- src/run.rt:39:9
 long-at-requires-5 : tie.Need-long-at-requires-5
 long-at-requires-5 c κs = search needs
 
--- src/run.rt:40:9
 long-at-requires-6 : tie.Need-long-at-requires-6
 long-at-requires-6 c κs = search needs
 
--- src/run.rt:41:9
 long-at-requires-7 : tie.Need-long-at-requires-7
 long-at-requires-7 c κs = search needs
 
--- src/run.rt:42:9
 long-at-requires-8 : tie.Need-long-at-requires-8
 long-at-requires-8 c κs = search needs
 
--- src/run.rt:31:1
 returns : tie.Need-returns
 returns c = eight-is (λ (n : ℕ). longAt (now (c .before .before .before .before .before .before .before .before .before .args .octets)) (26 + 4 * n)) (c .before .before .before .before .before .before .before .long-at .ensures) (c .before .before .before .before .before .before .long-at2 .ensures) (c .before .before .before .before .before .long-at3 .ensures) (c .before .before .before .before .long-at4 .ensures) (c .before .before .before .long-at5 .ensures) (c .before .before .long-at6 .ensures) (c .before .long-at7 .ensures) (c .long-at8 .ensures)
 

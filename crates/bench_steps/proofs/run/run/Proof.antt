@@ -1,3 +1,4 @@
+-- `bench_steps::run::run` meets its contract. Assumes nothing.
 use Rattle.bench_steps.proofs.Running.{whole-settings}
 use Rattle.bench_steps.specs.Run.{firstRefusal, refusedReport, runOf}
 use Rattle.ground.proofs.Pick.{pick-yes, pick-no}
@@ -10,44 +11,30 @@ use Prim.Native.Nat.{ℕ}
 use borrow.Author.Needs.{needs}
 use Rattle.bench_steps.proofs.run.run.Statement.{statement}
 use Rattle.bench_steps.proofs.run.run.Tie as tie
-use Rattle.bench_steps.proofs.run.run.Reads as reads
-use Rattle.bench_steps.proofs.run.run.Lts as lts
-use Rattle.bench_steps.proofs.record.octet_at.Reads as octet-at-reads
-use Rattle.bench_steps.proofs.run.first_refusal.Reads as first-refusal-reads
-use Rattle.bench_steps.proofs.run.refused_report.Reads as refused-report-reads
-use Rattle.bench_steps.proofs.run.settled.Reads as settled-reads
 
--- src/run.rt:194:9
 refused-report-requires : tie.Need-refused-report-requires
 refused-report-requires c κs = search needs
 
--- src/run.rt:194:9
 returns : tie.Need-returns
 unfolding runOf
 returns c = c .refused-report .ensures ∙ sym (pick-yes _ _ (lt-ltb _ _ (c .before .if1 .taken)))
 
--- src/run.rt:196:32
 octet-at-requires : tie.Need-octet-at-requires
 octet-at-requires c κs = search needs
 
--- src/run.rt:196:9
 first-refusal-requires : tie.Need-first-refusal-requires
 first-refusal-requires c κs = search needs
 
--- src/run.rt:198:9
 refused-report-requires-2 : tie.Need-refused-report-requires-2
 refused-report-requires-2 c κs = search needs
 
--- src/run.rt:198:9
 returns-2 : tie.Need-returns-2
 unfolding runOf
 returns-2 c = c .refused-report2 .ensures ∙ ap refusedReport (c .before .before .first-refusal .ensures ∙ ap (λ (k : ℕ). firstRefusal k (length (now (c .before .before .before .before .before .before .args .input)))) (c .before .before .before .octet-at .ensures)) ∙ sym (pick-no _ _ (le-ltb _ _ (c .before .before .before .before .if1 .left)) ∙ pick-no _ _ (ap (λ (k : ℕ). eqb k 0) (sym (c .before .before .first-refusal .ensures ∙ ap (λ (k : ℕ). firstRefusal k (length (now (c .before .before .before .before .before .before .args .input)))) (c .before .before .before .octet-at .ensures))) ∙ ne-eqb (c .before .before .first-refusal .result) 0 (c .before .if2 .taken)))
 
--- src/run.rt:200:5
 settled-requires : tie.Need-settled-requires
 settled-requires c κs = whole-settings _ _ (sym (c .before .first-refusal .ensures) ∙ c .if2 .left)
 
--- src/run.rt:190:1
 returns-3 : tie.Need-returns-3
 unfolding runOf
 returns-3 c = c .settled .ensures ∙ sym (pick-no _ _ (le-ltb _ _ (c .before .before .before .before .if1 .left)) ∙ pick-yes _ _ (ap (λ (k : ℕ). eqb k 0) (sym (c .before .before .first-refusal .ensures ∙ ap (λ (k : ℕ). firstRefusal k (length (now (c .before .before .before .before .before .before .args .input)))) (c .before .before .before .octet-at .ensures))) ∙ eq-eqb (c .before .before .first-refusal .result) 0 (c .before .if2 .left)))

@@ -1,54 +1,38 @@
+-- `bench_steps::run::settings_in` meets its contract. Assumes nothing.
 use borrow.Author.Needs.{needs}
 use Rattle.bench_steps.proofs.run.settings_in.Statement.{statement}
 use Rattle.bench_steps.proofs.run.settings_in.Tie as tie
-use Rattle.bench_steps.proofs.run.settings_in.Reads as reads
-use Rattle.bench_steps.proofs.run.settings_in.Lts as lts
-use Rattle.bench_steps.proofs.record.long_at.Reads as long-at-reads
-use Rattle.bench_steps.proofs.record.octet_at.Reads as octet-at-reads
-use Rattle.bench_steps.proofs.record.word_at.Reads as word-at-reads
-use Rattle.bench_steps.proofs.run.rooms_in.Reads as rooms-in-reads
 
--- src/run.rt:50:9
 rooms-in-requires : tie.Need-rooms-in-requires
 rooms-in-requires c κs = search needs
 
--- src/run.rt:52:18
 octet-at-requires : tie.Need-octet-at-requires
 octet-at-requires c κs = search needs
 
--- src/run.rt:53:18
 word-at-requires : tie.Need-word-at-requires
 word-at-requires c κs = search needs
 
--- src/run.rt:53:18
 cast-t5 : tie.Need-cast-t5
 cast-t5 c = search needs
 
--- src/run.rt:54:30
 long-at-requires : tie.Need-long-at-requires
 long-at-requires c κs = search needs
 
--- src/run.rt:55:32
 long-at-requires-2 : tie.Need-long-at-requires-2
 long-at-requires-2 c κs = search needs
 
--- src/run.rt:56:29
 long-at-requires-3 : tie.Need-long-at-requires-3
 long-at-requires-3 c κs = search needs
 
--- src/run.rt:57:16
 word-at-requires-2 : tie.Need-word-at-requires-2
 word-at-requires-2 c κs = search needs
 
--- src/run.rt:58:29
 long-at-requires-4 : tie.Need-long-at-requires-4
 long-at-requires-4 c κs = search needs
 
--- src/run.rt:59:21
 long-at-requires-5 : tie.Need-long-at-requires-5
 long-at-requires-5 c κs = search needs
 
--- src/run.rt:47:1
 returns : tie.Need-returns
 returns c =
     λ i. record {

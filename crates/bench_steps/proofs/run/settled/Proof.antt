@@ -1,3 +1,4 @@
+-- `bench_steps::run::settled` meets its contract. Assumes nothing.
 use Rattle.bench_steps.proofs.Running.{accepted-small, settled-refused, settled-accepted}
 use Rattle.bench_steps.specs.Run.{settingsIn, watchWith, followOf}
 use Rattle.recorder.specs.declared.settings.Settings.{Settings}
@@ -10,54 +11,37 @@ use Prim.Native.Nat.{_-_}
 use borrow.Author.Needs.{needs}
 use Rattle.bench_steps.proofs.run.settled.Statement.{statement}
 use Rattle.bench_steps.proofs.run.settled.Tie as tie
-use Rattle.bench_steps.proofs.run.settled.Reads as reads
-use Rattle.bench_steps.proofs.run.settled.Lts as lts
-use Rattle.bench_steps.proofs.run.follow.Reads as follow-reads
-use Rattle.bench_steps.proofs.run.refused_report.Reads as refused-report-reads
-use Rattle.bench_steps.proofs.run.settings_in.Reads as settings-in-reads
-use Rattle.recorder.proofs.settings.settle.Reads as settle-reads
 
--- src/run.rt:175:9
 settings-in-requires : tie.Need-settings-in-requires
 settings-in-requires c κs = search needs
 
--- src/run.rt:176:9
 settle-requires : tie.Need-settle-requires
 settle-requires c κs = search needs
 
--- src/run.rt:178:27
 enum-known-settling : tie.Need-enum-known-settling
 enum-known-settling c = search needs
 
--- src/run.rt:178:38
 refused-report-requires : tie.Need-refused-report-requires
 refused-report-requires c κs = search needs
 
--- src/run.rt:179:28
 enum-known-settling-2 : tie.Need-enum-known-settling-2
 enum-known-settling-2 c = search needs
 
--- src/run.rt:184:27
 sub-follow : tie.Need-sub-follow
 sub-follow c = search needs
 
--- src/run.rt:184:27
 part-follow-start : tie.Need-part-follow-start
 part-follow-start c = search needs
 
--- src/run.rt:184:27
 part-follow-end : tie.Need-part-follow-end
 part-follow-end c = search needs
 
--- src/run.rt:184:13
 follow-requires : tie.Need-follow-requires
 follow-requires c κs = accepted-small (c .before .before .before .before .before .settings-in .result) _ (sym (c .before .before .before .before .settle .ensures) ∙ c .before .before .settling2 .given .1)
 
--- src/run.rt:171:1
 returns : tie.Need-returns
 returns c = c .refused-report .ensures ∙ settled-refused (now (c .before .before .before .before .before .before .before .args .input)) _ (ap settling (sym (c .before .before .before .before .before .settings-in .ensures)) ∙ sym (c .before .before .before .before .settle .ensures) ∙ c .before .before .settling .given .1)
 
--- src/run.rt:171:1
 returns-2 : tie.Need-returns-2
 returns-2 c =
     c .follow .ensures ∙

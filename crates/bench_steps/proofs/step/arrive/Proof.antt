@@ -1,3 +1,4 @@
+-- `bench_steps::step::arrive` meets its contract. Assumes nothing.
 use Rattle.bench_steps.proofs.Answered.{told-refused, arrive-number, ended-some, arrive-told}
 use Rattle.bench_steps.proofs.Answered.{told-refused, arrive-number, ended-some, arrive-answers}
 use Rattle.bench_steps.specs.Chains.{noneEnded, oldestOf}
@@ -14,31 +15,19 @@ use Prim.Native.Nat.{ℕ, _+_, _*_, _-_, _≤_}
 use borrow.Author.Needs.{needs}
 use Rattle.bench_steps.proofs.step.arrive.Statement.{statement}
 use Rattle.bench_steps.proofs.step.arrive.Tie as tie
-use Rattle.bench_steps.proofs.step.arrive.Reads as reads
-use Rattle.bench_steps.proofs.step.arrive.Lts as lts
-use Rattle.bench_steps.proofs.rows.shift.Reads as shift-reads
-use Rattle.bench_steps.proofs.step.arrival.Reads as arrival-reads
-use Rattle.bench_steps.proofs.step.none_ended.Reads as none-ended-reads
-use Rattle.bench_steps.proofs.step.oldest.Reads as oldest-reads
-use Rattle.bench_steps.proofs.step.refused.Reads as refused-reads
 
--- src/step.rt:249:19
 oldest-requires : tie.Need-oldest-requires
 oldest-requires c κs = search needs
 
--- src/step.rt:249:8
 none-ended-requires : tie.Need-none-ended-requires
 none-ended-requires c κs = search needs
 
--- src/step.rt:250:9
 refused-requires : tie.Need-refused-requires
 refused-requires c κs = search needs
 
--- src/step.rt:250:9
 same-length : tie.Need-same-length
 same-length c = search needs
 
--- src/step.rt:250:9
 returns : tie.Need-returns
 returns c =
     told-refused (c .before .before .before .before .before .before .before .before .before .args .watch) (memoryOf (c .before .before .before .before .before .before .before .before .before .args .bench) (now (c .before .before .before .before .before .before .before .before .before .args .ends)) (now (c .before .before .before .before .before .before .before .before .before .args .kinds)) (now (c .before .before .before .before .before .before .before .before .before .args .pfc-ends)) (now (c .before .before .before .before .before .before .before .before .before .args .octets))) record'.Arrive 37 _ _ (c .before .before .before .before .before .before .before .before .before .pre)
@@ -47,39 +36,30 @@ returns c =
     (c .refused .ensures .0)
     (c .refused .ensures .1)
 
--- src/step.rt:252:16
 slice-read-kind : tie.Need-slice-read-kind
 slice-read-kind c = search needs
 
--- src/step.rt:253:16
 sub-left : tie.Need-sub-left
 sub-left c = omega (arith, (ended-some (c .before .before .before .before .before .before .before .before .before .before .args .bench .«data_count») (now (c .before .before .before .before .before .before .before .before .before .before .args .ends)) (c .before .before .before .before .before .before .before .before .before .before .args .bench .now) (ap (λ (e : Moment). noneEnded e (c .before .before .before .before .before .before .before .before .before .before .args .bench .now)) (sym (c .before .before .before .before .oldest .ensures)) ∙ sym (c .before .before .before .none-ended .ensures) ∙ c .before .before .if1 .left)))
 
--- src/step.rt:255:5
 shift-requires : tie.Need-shift-requires
 shift-requires c κs = search needs
 
--- src/step.rt:256:5
 shift-requires-2 : tie.Need-shift-requires-2
 shift-requires-2 c κs = search needs
 
--- src/step.rt:259:9
 arrival-requires : tie.Need-arrival-requires
 arrival-requires c κs = search needs
 
--- src/step.rt:262:5
 refused-requires-2 : tie.Need-refused-requires-2
 refused-requires-2 c κs = search needs
 
--- src/step.rt:238:1
 same-length-2 : tie.Need-same-length-2
 same-length-2 c = search needs
 
--- src/step.rt:238:1
 same-length-3 : tie.Need-same-length-3
 same-length-3 c = search needs
 
--- src/step.rt:238:1
 returns-2 : tie.Need-returns-2
 returns-2 c =
     let a = c .before .before .before .before .before .before .before .before .before .before .before .before .before .before .before .before .before .before .before .before .before .args in

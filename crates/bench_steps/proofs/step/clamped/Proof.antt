@@ -1,19 +1,14 @@
+-- `bench_steps::step::clamped` meets its contract. Assumes nothing.
 use borrow.Author.Needs.{needs}
 use Rattle.bench_steps.proofs.step.clamped.Statement.{statement}
 use Rattle.bench_steps.proofs.step.clamped.Tie as tie
-use Rattle.bench_steps.proofs.step.clamped.Reads as reads
-use Rattle.bench_steps.proofs.step.clamped.Lts as lts
-use Rattle.bench_steps.proofs.step.at_most_128.Reads as at-most-128-reads
 
--- src/step.rt:516:5
 at-most-128-requires : tie.Need-at-most-128-requires
 at-most-128-requires c κs = search needs
 
--- src/step.rt:517:5
 at-most-128-requires-2 : tie.Need-at-most-128-requires-2
 at-most-128-requires-2 c κs = search needs
 
--- src/step.rt:512:1
 returns : tie.Need-returns
 returns c =
     λ i. record {

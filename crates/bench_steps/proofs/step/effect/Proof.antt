@@ -1,3 +1,4 @@
+-- `bench_steps::step::effect` meets its contract. Assumes nothing.
 use Rattle.head.specs.Timers.{afterRequest}
 use Rattle.frame.specs.declared.Verdict.{Verdict}
 use Rattle.bench_steps.specs.Step.{effectOf}
@@ -7,42 +8,30 @@ use mathlib.Core.Path.{sym, ap, _∙_}
 use borrow.Author.Needs.{needs}
 use Rattle.bench_steps.proofs.step.effect.Statement.{statement}
 use Rattle.bench_steps.proofs.step.effect.Tie as tie
-use Rattle.bench_steps.proofs.step.effect.Reads as reads
-use Rattle.bench_steps.proofs.step.effect.Lts as lts
-use Rattle.frame.proofs.times_of.Reads as times-of-reads
-use Rattle.head.proofs.Head.taken.Reads as taken-reads
 
--- src/step.rt:344:26
 enum-told : tie.Need-enum-told
 enum-told c = search needs
 
--- src/step.rt:345:32
 enum-told-2 : tie.Need-enum-told-2
 enum-told-2 c = search needs
 
--- src/step.rt:346:23
 enum-known-found : tie.Need-enum-known-found
 enum-known-found c = search needs
 
--- src/step.rt:346:57
 times-of-requires : tie.Need-times-of-requires
 times-of-requires c κs = search needs
 
--- src/step.rt:346:35
 taken-requires : tie.Need-taken-requires
 taken-requires c κs = search needs
 
--- src/step.rt:340:1
 returns : tie.Need-returns
 unfolding effectOf
 returns c = sym (ap (λ (v : Verdict). effectOf v (c .before .before .args .head)) (c .enum-told .given .1))
 
--- src/step.rt:340:1
 returns-2 : tie.Need-returns-2
 unfolding effectOf
 returns-2 c = sym (ap (λ (v : Verdict). effectOf v (c .before .before .args .head)) (c .enum-told2 .given .1))
 
--- src/step.rt:340:1
 returns-3 : tie.Need-returns-3
 unfolding effectOf
 returns-3 c = c .taken .ensures ∙ ap (afterRequest (c .before .before .before .before .before .args .head) (c .before .before .before .found .given .0 .0 .e)) (c .before .times-of .ensures) ∙ sym (ap (λ (v : Verdict). effectOf v (c .before .before .before .before .before .args .head)) (c .before .before .before .found .given .1))

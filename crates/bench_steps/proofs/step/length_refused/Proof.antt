@@ -1,17 +1,14 @@
+-- `bench_steps::step::length_refused` meets its contract. Assumes nothing.
 use Rattle.bench_steps.specs.Chains.{lengthRefused}
 use Rattle.ground.proofs.Tests.{tests}
 use Rattle.ground.specs.Pick.{pick}
 use Rattle.bench_steps.proofs.step.length_refused.Statement.{statement}
 use Rattle.bench_steps.proofs.step.length_refused.Tie as tie
-use Rattle.bench_steps.proofs.step.length_refused.Reads as reads
-use Rattle.bench_steps.proofs.step.length_refused.Lts as lts
 
--- src/step.rt:46:9
 returns : tie.Need-returns
 unfolding pick lengthRefused
 returns c = search tests
 
--- src/step.rt:42:1
 returns-2 : tie.Need-returns-2
 unfolding pick lengthRefused
 returns-2 c = search tests

@@ -1,3 +1,4 @@
+-- `bench_steps::step::none_ended` meets its contract. Assumes nothing.
 use Rattle.bench_steps.specs.Chains.{noneEnded}
 use Rattle.recorder.specs.declared.watch.Moment.{Moment}
 use Rattle.ground.proofs.Pick.{pick-yes, pick-no}
@@ -6,23 +7,17 @@ use mathlib.Core.Path.{sym, ap, _∙_}
 use borrow.Author.Needs.{needs}
 use Rattle.bench_steps.proofs.step.none_ended.Statement.{statement}
 use Rattle.bench_steps.proofs.step.none_ended.Tie as tie
-use Rattle.bench_steps.proofs.step.none_ended.Reads as reads
-use Rattle.bench_steps.proofs.step.none_ended.Lts as lts
 
--- src/step.rt:136:26
 enum-told : tie.Need-enum-told
 enum-told c = search needs
 
--- src/step.rt:137:20
 enum-known-oldest : tie.Need-enum-known-oldest
 enum-known-oldest c = search needs
 
--- src/step.rt:132:1
 returns : tie.Need-returns
 unfolding noneEnded
 returns c = sym (ap (λ (m : Moment). noneEnded m (c .before .before .args .now)) (c .enum-told .given .1))
 
--- src/step.rt:132:1
 returns-2 : tie.Need-returns-2
 unfolding noneEnded
 returns-2 c = sym (ap (λ (m : Moment). noneEnded m (c .before .before .before .args .now)) (c .before .oldest .given .1))

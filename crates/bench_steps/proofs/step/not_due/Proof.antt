@@ -1,3 +1,4 @@
+-- `bench_steps::step::not_due` meets its contract. Assumes nothing.
 use Rattle.bench_steps.specs.Step.{notDue}
 use Rattle.ground.proofs.Pick.{pick-yes, pick-no}
 use borrow.Author.Tests.{eq-eqb, ne-eqb, lt-ltb, le-ltb, le-leb, lt-leb}
@@ -5,23 +6,17 @@ use mathlib.Core.Path.{sym, ap, _∙_}
 use borrow.Author.Needs.{needs}
 use Rattle.bench_steps.proofs.step.not_due.Statement.{statement}
 use Rattle.bench_steps.proofs.step.not_due.Tie as tie
-use Rattle.bench_steps.proofs.step.not_due.Reads as reads
-use Rattle.bench_steps.proofs.step.not_due.Lts as lts
 
--- src/step.rt:296:26
 enum-told : tie.Need-enum-told
 enum-told c = search needs
 
--- src/step.rt:297:26
 enum-told-2 : tie.Need-enum-told-2
 enum-told-2 c = search needs
 
--- src/step.rt:292:1
 returns : tie.Need-returns
 unfolding notDue
 returns c = sym (ap notDue (c .enum-told .given .1))
 
--- src/step.rt:292:1
 returns-2 : tie.Need-returns-2
 unfolding notDue
 returns-2 c = sym (ap notDue (c .enum-told2 .given .1))

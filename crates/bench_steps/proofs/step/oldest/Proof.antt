@@ -1,3 +1,4 @@
+-- `bench_steps::step::oldest` meets its contract. Assumes nothing.
 use Rattle.bench_steps.specs.Chains.{oldestOf}
 use Rattle.ground.proofs.Pick.{pick-yes, pick-no}
 use borrow.Author.Tests.{eq-eqb, ne-eqb, lt-ltb, le-ltb, le-leb, lt-leb}
@@ -5,19 +6,14 @@ use mathlib.Core.Path.{sym, ap, _∙_}
 use borrow.Author.Needs.{needs}
 use Rattle.bench_steps.proofs.step.oldest.Statement.{statement}
 use Rattle.bench_steps.proofs.step.oldest.Tie as tie
-use Rattle.bench_steps.proofs.step.oldest.Reads as reads
-use Rattle.bench_steps.proofs.step.oldest.Lts as lts
 
--- src/step.rt:127:20
 shared-slice-read-t6 : tie.Need-shared-slice-read-t6
 shared-slice-read-t6 c = search needs
 
--- src/step.rt:120:1
 returns : tie.Need-returns
 unfolding oldestOf
 returns c = sym (pick-yes _ _ (eq-eqb _ _ (c .if1 .taken)))
 
--- src/step.rt:120:1
 returns-2 : tie.Need-returns-2
 unfolding oldestOf
 returns-2 c = sym (pick-no _ _ (ne-eqb _ _ (c .before .if1 .left)))

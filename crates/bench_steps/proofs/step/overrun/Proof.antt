@@ -1,3 +1,4 @@
+-- `bench_steps::step::overrun` meets its contract. Assumes nothing.
 use Rattle.bench_steps.specs.Chains.{overrunBy}
 use Rattle.ground.proofs.Pick.{pick-yes, pick-no}
 use borrow.Author.Tests.{eq-eqb, ne-eqb, lt-ltb, le-ltb, le-leb, lt-leb}
@@ -5,33 +6,24 @@ use mathlib.Core.Path.{sym, ap, _∙_}
 use borrow.Author.Needs.{needs}
 use Rattle.bench_steps.proofs.step.overrun.Statement.{statement}
 use Rattle.bench_steps.proofs.step.overrun.Tie as tie
-use Rattle.bench_steps.proofs.step.overrun.Reads as reads
-use Rattle.bench_steps.proofs.step.overrun.Lts as lts
-use Rattle.bench_steps.proofs.step.past.Reads as past-reads
 
--- src/step.rt:145:8
 past-requires : tie.Need-past-requires
 past-requires c κs = search needs
 
--- src/step.rt:146:9
 returns : tie.Need-returns
 unfolding overrunBy
 returns c = sym (pick-yes _ _ (sym (c .before .past .ensures) ∙ c .if1 .taken))
 
--- src/step.rt:148:8
 past-requires-2 : tie.Need-past-requires-2
 past-requires-2 c κs = search needs
 
--- src/step.rt:149:9
 returns-2 : tie.Need-returns-2
 unfolding overrunBy
 returns-2 c = sym (pick-no _ _ (sym (c .before .before .before .past .ensures) ∙ c .before .before .if1 .left) ∙ pick-yes _ _ (sym (c .before .past2 .ensures) ∙ c .if2 .taken))
 
--- src/step.rt:151:5
 past-requires-3 : tie.Need-past-requires-3
 past-requires-3 c κs = search needs
 
--- src/step.rt:142:1
 returns-3 : tie.Need-returns-3
 unfolding overrunBy
 returns-3 c = c .past3 .ensures ∙ sym (pick-no _ _ (sym (c .before .before .before .before .past .ensures) ∙ c .before .before .before .if1 .left) ∙ pick-no _ _ (sym (c .before .before .past2 .ensures) ∙ c .before .if2 .left))

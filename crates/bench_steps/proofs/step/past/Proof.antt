@@ -1,3 +1,4 @@
+-- `bench_steps::step::past` meets its contract. Assumes nothing.
 use Rattle.bench_steps.proofs.Moments.{past-since, past-not-yet}
 use Rattle.bench_steps.specs.Step.{pastDue}
 use Rattle.recorder.specs.declared.watch.Moment.{Moment}
@@ -7,27 +8,20 @@ use mathlib.Core.Path.{sym, ap, _∙_}
 use borrow.Author.Needs.{needs}
 use Rattle.bench_steps.proofs.step.past.Statement.{statement}
 use Rattle.bench_steps.proofs.step.past.Tie as tie
-use Rattle.bench_steps.proofs.step.past.Reads as reads
-use Rattle.bench_steps.proofs.step.past.Lts as lts
 
--- src/step.rt:31:26
 enum-told : tie.Need-enum-told
 enum-told c = search needs
 
--- src/step.rt:32:20
 enum-known-moment : tie.Need-enum-known-moment
 enum-known-moment c = search needs
 
--- src/step.rt:27:1
 returns : tie.Need-returns
 unfolding pastDue
 returns c = sym (ap (λ (m : Moment). pastDue m (c .before .before .args .bound) (c .before .before .args .now)) (c .enum-told .given .1))
 
--- src/step.rt:27:1
 returns-2 : tie.Need-returns-2
 returns-2 c = past-since _ _ _ (c .if1 .taken) ∙ sym (ap (λ (m : Moment). pastDue m (c .before .before .before .before .args .bound) (c .before .before .before .before .args .now)) (c .before .before .moment .given .1))
 
--- src/step.rt:27:1
 returns-3 : tie.Need-returns-3
 returns-3 c = past-not-yet _ _ _ (c .if1 .left) ∙ sym (ap (λ (m : Moment). pastDue m (c .before .before .before .before .args .bound) (c .before .before .before .before .args .now)) (c .before .before .moment .given .1))
 

@@ -1,3 +1,4 @@
+-- `bench_steps::step::start_data` meets its contract. Assumes nothing.
 use Rattle.bench_steps.proofs.Answered.{told-refused, start-data-number, start-data-room, start-data-answers}
 use Rattle.bench_steps.specs.declared.record.Record.the-variants as record'
 use mathlib.Core.Bool.{Bool, true, false}
@@ -20,31 +21,19 @@ use Prim.Native.Nat.{ℕ, _+_, _*_, _-_}
 use borrow.Author.Needs.{needs}
 use Rattle.bench_steps.proofs.step.start_data.Statement.{statement}
 use Rattle.bench_steps.proofs.step.start_data.Tie as tie
-use Rattle.bench_steps.proofs.step.start_data.Reads as reads
-use Rattle.bench_steps.proofs.step.start_data.Lts as lts
-use Rattle.bench_steps.proofs.step.length_refused.Reads as length-refused-reads
-use Rattle.bench_steps.proofs.step.refused.Reads as refused-reads
-use Rattle.bench_steps.proofs.step.start_data_number.Reads as start-data-number-reads
-use Rattle.head.proofs.Head.is_paused.Reads as is-paused-reads
-use Rattle.units.proofs.sum.Reads as sum-reads
 
--- src/step.rt:129:9
 length-refused-requires : tie.Need-length-refused-requires
 length-refused-requires c κs = search needs
 
--- src/step.rt:130:80
 is-paused-requires : tie.Need-is-paused-requires
 is-paused-requires c κs = search needs
 
--- src/step.rt:130:9
 start-data-number-requires : tie.Need-start-data-number-requires
 start-data-number-requires c κs = search needs
 
--- src/step.rt:132:9
 refused-requires : tie.Need-refused-requires
 refused-requires c κs = search needs
 
--- src/step.rt:132:9
 returns : tie.Need-returns
 returns c =
     told-refused (c .before .before .before .before .before .before .before .before .before .before .args .watch) (memoryOf (c .before .before .before .before .before .before .before .before .before .before .args .bench) (now (c .before .before .before .before .before .before .before .before .before .before .args .ends)) (now (c .before .before .before .before .before .before .before .before .before .before .args .kinds)) (now (c .before .before .before .before .before .before .before .before .before .before .args .pfc-ends)) (now (c .before .before .before .before .before .before .before .before .before .before .args .octets))) (record'.StartData (c .before .before .before .before .before .before .before .before .before .before .args .priority) (c .before .before .before .before .before .before .before .before .before .before .args .length)) (c .before .before .start-data-number .result) _ _ (c .before .before .before .before .before .before .before .before .before .before .pre)
@@ -56,55 +45,42 @@ returns c =
     (c .refused .ensures .0)
     (c .refused .ensures .1)
 
--- src/step.rt:135:37
 add-sum : tie.Need-add-sum
 add-sum c = search needs
 
--- src/step.rt:135:9
 sum-requires : tie.Need-sum-requires
 sum-requires c κs = search needs
 
--- src/step.rt:136:5
 mul-ends : tie.Need-mul-ends
 mul-ends c = search needs
 
--- src/step.rt:136:5
 slice-write-ends : tie.Need-slice-write-ends
 slice-write-ends c = omega (arith, (c .before .before .before .before .before .before .before .before .before .before .pre), (start-data-room _ _ _ _ _ _ (sym (c .before .before .start-data-number .ensures) ∙ c .before .if1 .left)))
 
--- src/step.rt:137:16
 mul-kinds : tie.Need-mul-kinds
 mul-kinds c = search needs
 
--- src/step.rt:137:16
 add-kinds : tie.Need-add-kinds
 add-kinds c = search needs
 
--- src/step.rt:137:5
 mul-kinds-2 : tie.Need-mul-kinds-2
 mul-kinds-2 c = search needs
 
--- src/step.rt:137:5
 slice-write-kinds : tie.Need-slice-write-kinds
 slice-write-kinds c = omega (arith, (c .before .before .before .before .before .before .before .before .before .before .pre), (start-data-room _ _ _ _ _ _ (sym (c .before .before .start-data-number .ensures) ∙ c .before .if1 .left)))
 
--- src/step.rt:140:23
 add-next : tie.Need-add-next
 add-next c = search needs
 
--- src/step.rt:141:5
 refused-requires-2 : tie.Need-refused-requires-2
 refused-requires-2 c κs = search needs
 
--- src/step.rt:115:1
 same-length : tie.Need-same-length
 same-length c = search needs
 
--- src/step.rt:115:1
 same-length-2 : tie.Need-same-length-2
 same-length-2 c = search needs
 
--- src/step.rt:115:1
 returns-2 : tie.Need-returns-2
 returns-2 c =
     start-data-answers (c .before .before .before .before .before .before .before .before .before .before .before .before .args .watch) (memoryOf (c .before .before .before .before .before .before .before .before .before .before .before .before .args .bench) (now (c .before .before .before .before .before .before .before .before .before .before .before .before .args .ends)) (now (c .before .before .before .before .before .before .before .before .before .before .before .before .args .kinds)) (now (c .before .before .before .before .before .before .before .before .before .before .before .before .args .pfc-ends)) (now (c .before .before .before .before .before .before .before .before .before .before .before .before .args .octets))) (c .before .before .before .before .before .before .before .before .before .before .before .before .pre) (c .before .before .before .before .before .before .before .before .before .before .before .before .args .priority) (c .before .before .before .before .before .before .before .before .before .before .before .before .args .length) _ _ _

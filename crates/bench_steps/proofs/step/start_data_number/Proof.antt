@@ -1,38 +1,31 @@
+-- `bench_steps::step::start_data_number` meets its contract. Assumes nothing.
 use Rattle.bench_steps.specs.Chains.{startDataNumber}
 use Rattle.ground.proofs.Pick.{pick-yes, pick-no}
 use borrow.Author.Tests.{eq-eqb, ne-eqb, lt-ltb, le-ltb, le-leb, lt-leb}
 use mathlib.Core.Path.{sym, ap, _∙_}
 use Rattle.bench_steps.proofs.step.start_data_number.Statement.{statement}
 use Rattle.bench_steps.proofs.step.start_data_number.Tie as tie
-use Rattle.bench_steps.proofs.step.start_data_number.Reads as reads
-use Rattle.bench_steps.proofs.step.start_data_number.Lts as lts
 
--- src/step.rt:56:9
 returns : tie.Need-returns
 unfolding startDataNumber
 returns c = sym (pick-yes _ _ (lt-ltb _ _ (c .if1 .taken)))
 
--- src/step.rt:59:9
 returns-2 : tie.Need-returns-2
 unfolding startDataNumber
 returns-2 c = sym (pick-no _ _ (le-ltb _ _ (c .before .if1 .left)) ∙ pick-yes _ _ (c .if2 .taken))
 
--- src/step.rt:62:9
 returns-3 : tie.Need-returns-3
 unfolding startDataNumber
 returns-3 c = sym (pick-no _ _ (le-ltb _ _ (c .before .before .if1 .left)) ∙ pick-no _ _ (c .before .if2 .left) ∙ pick-yes _ _ (lt-ltb _ _ (c .if3 .taken)))
 
--- src/step.rt:65:9
 returns-4 : tie.Need-returns-4
 unfolding startDataNumber
 returns-4 c = sym (pick-no _ _ (le-ltb _ _ (c .before .before .before .if1 .left)) ∙ pick-no _ _ (c .before .before .if2 .left) ∙ pick-no _ _ (le-ltb _ _ (c .before .if3 .left)) ∙ pick-yes _ _ (c .if4 .taken))
 
--- src/step.rt:68:9
 returns-5 : tie.Need-returns-5
 unfolding startDataNumber
 returns-5 c = sym (pick-no _ _ (le-ltb _ _ (c .before .before .before .before .if1 .left)) ∙ pick-no _ _ (c .before .before .before .if2 .left) ∙ pick-no _ _ (le-ltb _ _ (c .before .before .if3 .left)) ∙ pick-no _ _ (c .before .if4 .left) ∙ pick-yes _ _ (le-leb _ _ (c .if5 .taken)))
 
--- src/step.rt:52:1
 returns-6 : tie.Need-returns-6
 unfolding startDataNumber
 returns-6 c = sym (pick-no _ _ (le-ltb _ _ (c .before .before .before .before .if1 .left)) ∙ pick-no _ _ (c .before .before .before .if2 .left) ∙ pick-no _ _ (le-ltb _ _ (c .before .before .if3 .left)) ∙ pick-no _ _ (c .before .if4 .left) ∙ pick-no _ _ (lt-leb _ _ (c .if5 .left)))

@@ -1,3 +1,4 @@
+-- `bench_steps::step::start_other` meets its contract. Assumes nothing.
 use Rattle.bench_steps.proofs.Answered.{told-refused, start-other-number, start-other-answers}
 use Rattle.bench_steps.specs.Chains.{lengthRefused, startOtherNumber}
 use Rattle.bench_steps.specs.declared.record.Record.the-variants as record'
@@ -11,31 +12,19 @@ use Prim.Native.Nat.{ℕ, _+_, _*_, _-_, _≤_}
 use borrow.Author.Needs.{needs}
 use Rattle.bench_steps.proofs.step.start_other.Statement.{statement}
 use Rattle.bench_steps.proofs.step.start_other.Tie as tie
-use Rattle.bench_steps.proofs.step.start_other.Reads as reads
-use Rattle.bench_steps.proofs.step.start_other.Lts as lts
-use Rattle.bench_steps.proofs.step.length_refused.Reads as length-refused-reads
-use Rattle.bench_steps.proofs.step.past.Reads as past-reads
-use Rattle.bench_steps.proofs.step.refused.Reads as refused-reads
-use Rattle.bench_steps.proofs.step.start_other_number.Reads as start-other-number-reads
-use Rattle.units.proofs.sum.Reads as sum-reads
 
--- src/step.rt:280:9
 length-refused-requires : tie.Need-length-refused-requires
 length-refused-requires c κs = search needs
 
--- src/step.rt:281:9
 past-requires : tie.Need-past-requires
 past-requires c κs = search needs
 
--- src/step.rt:282:9
 start-other-number-requires : tie.Need-start-other-number-requires
 start-other-number-requires c κs = search needs
 
--- src/step.rt:284:9
 refused-requires : tie.Need-refused-requires
 refused-requires c κs = search needs
 
--- src/step.rt:284:9
 returns : tie.Need-returns
 returns c =
     told-refused (c .before .before .before .before .before .before .before .before .before .before .args .watch) (memoryOf (c .before .before .before .before .before .before .before .before .before .before .args .bench) (now (c .before .before .before .before .before .before .before .before .before .before .args .ends)) (now (c .before .before .before .before .before .before .before .before .before .before .args .kinds)) (now (c .before .before .before .before .before .before .before .before .before .before .args .pfc-ends)) (now (c .before .before .before .before .before .before .before .before .before .before .args .octets))) (record'.StartOther (c .before .before .before .before .before .before .before .before .before .before .args .length)) (c .before .before .start-other-number .result) _ _ (c .before .before .before .before .before .before .before .before .before .before .pre)
@@ -47,19 +36,15 @@ returns c =
     (c .refused .ensures .0)
     (c .refused .ensures .1)
 
--- src/step.rt:287:41
 add-sum : tie.Need-add-sum
 add-sum c = search needs
 
--- src/step.rt:287:5
 sum-requires : tie.Need-sum-requires
 sum-requires c κs = search needs
 
--- src/step.rt:288:5
 refused-requires-2 : tie.Need-refused-requires-2
 refused-requires-2 c κs = search needs
 
--- src/step.rt:266:1
 returns-2 : tie.Need-returns-2
 returns-2 c =
     start-other-answers (c .before .before .before .before .before .before .before .before .before .before .before .args .watch) (memoryOf (c .before .before .before .before .before .before .before .before .before .before .before .args .bench) (now (c .before .before .before .before .before .before .before .before .before .before .before .args .ends)) (now (c .before .before .before .before .before .before .before .before .before .before .before .args .kinds)) (now (c .before .before .before .before .before .before .before .before .before .before .before .args .pfc-ends)) (now (c .before .before .before .before .before .before .before .before .before .before .before .args .octets))) (c .before .before .before .before .before .before .before .before .before .before .before .pre) (c .before .before .before .before .before .before .before .before .before .before .before .args .length) _ _ _

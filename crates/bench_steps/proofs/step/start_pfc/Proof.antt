@@ -1,3 +1,4 @@
+-- `bench_steps::step::start_pfc` meets its contract. Assumes nothing.
 use Rattle.bench_steps.proofs.Answered.{told-refused, start-pfc-number, start-pfc-room, start-pfc-answers}
 use Rattle.bench_steps.specs.Chains.{startPfcNumber}
 use Rattle.bench_steps.specs.declared.record.Record.the-variants as record'
@@ -11,29 +12,16 @@ use Prim.Native.Nat.{ℕ, _+_, _*_, _-_, _≤_}
 use borrow.Author.Needs.{needs}
 use Rattle.bench_steps.proofs.step.start_pfc.Statement.{statement}
 use Rattle.bench_steps.proofs.step.start_pfc.Tie as tie
-use Rattle.bench_steps.proofs.step.start_pfc.Reads as reads
-use Rattle.bench_steps.proofs.step.start_pfc.Lts as lts
-use Rattle.bench_steps.proofs.step.build_at.Reads as build-at-reads
-use Rattle.bench_steps.proofs.step.not_due.Reads as not-due-reads
-use Rattle.bench_steps.proofs.step.refused.Reads as refused-reads
-use Rattle.bench_steps.proofs.step.start_pfc_number.Reads as start-pfc-number-reads
-use Rattle.recorder.proofs.watch.started.Reads as started-reads
-use Rattle.recorder.proofs.watch.times_for.Reads as times-for-reads
-use Rattle.units.proofs.sum.Reads as sum-reads
 
--- src/step.rt:323:35
 not-due-requires : tie.Need-not-due-requires
 not-due-requires c κs = search needs
 
--- src/step.rt:323:9
 start-pfc-number-requires : tie.Need-start-pfc-number-requires
 start-pfc-number-requires c κs = search needs
 
--- src/step.rt:325:9
 refused-requires : tie.Need-refused-requires
 refused-requires c κs = search needs
 
--- src/step.rt:325:9
 returns : tie.Need-returns
 returns c =
     told-refused (c .before .before .before .before .before .before .before .before .before .args .watch) (memoryOf (c .before .before .before .before .before .before .before .before .before .args .bench) (now (c .before .before .before .before .before .before .before .before .before .args .ends)) (now (c .before .before .before .before .before .before .before .before .before .args .kinds)) (now (c .before .before .before .before .before .before .before .before .before .args .pfc-ends)) (now (c .before .before .before .before .before .before .before .before .before .args .octets))) record'.StartPfc (c .before .before .start-pfc-number .result) _ _ (c .before .before .before .before .before .before .before .before .before .pre)
@@ -44,51 +32,39 @@ returns c =
     (c .refused .ensures .0)
     (c .refused .ensures .1)
 
--- src/step.rt:328:9
 sum-requires : tie.Need-sum-requires
 sum-requires c κs = search needs
 
--- src/step.rt:329:5
 mul-pfc-ends : tie.Need-mul-pfc-ends
 mul-pfc-ends c = search needs
 
--- src/step.rt:329:5
 slice-write-pfc-ends : tie.Need-slice-write-pfc-ends
 slice-write-pfc-ends c = omega (arith, (c .before .before .before .before .before .before .before .before .before .pre), (start-pfc-room _ _ _ _ (sym (c .before .before .start-pfc-number .ensures) ∙ c .before .if1 .left)))
 
--- src/step.rt:330:22
 mul-build-at : tie.Need-mul-build-at
 mul-build-at c = search needs
 
--- src/step.rt:330:54
 times-for-requires : tie.Need-times-for-requires
 times-for-requires c κs = search needs
 
--- src/step.rt:330:5
 build-at-requires : tie.Need-build-at-requires
 build-at-requires c κs = omega (arith, (c .before .before .before .before .before .before .before .before .before .before .before .pre), (start-pfc-room _ _ _ _ (sym (c .before .before .before .before .start-pfc-number .ensures) ∙ c .before .before .before .if1 .left)))
 
--- src/step.rt:333:22
 add-next : tie.Need-add-next
 add-next c = search needs
 
--- src/step.rt:334:9
 started-requires : tie.Need-started-requires
 started-requires c κs = search needs
 
--- src/step.rt:336:5
 refused-requires-2 : tie.Need-refused-requires-2
 refused-requires-2 c κs = search needs
 
--- src/step.rt:310:1
 same-length : tie.Need-same-length
 same-length c = search needs
 
--- src/step.rt:310:1
 same-length-2 : tie.Need-same-length-2
 same-length-2 c = search needs
 
--- src/step.rt:310:1
 returns-2 : tie.Need-returns-2
 returns-2 c =
     start-pfc-answers (c .before .before .before .before .before .before .before .before .before .before .before .before .before .before .before .before .before .args .watch) (memoryOf (c .before .before .before .before .before .before .before .before .before .before .before .before .before .before .before .before .before .args .bench) (now (c .before .before .before .before .before .before .before .before .before .before .before .before .before .before .before .before .before .args .ends)) (now (c .before .before .before .before .before .before .before .before .before .before .before .before .before .before .before .before .before .args .kinds)) (now (c .before .before .before .before .before .before .before .before .before .before .before .before .before .before .before .before .before .args .pfc-ends)) (now (c .before .before .before .before .before .before .before .before .before .before .before .before .before .before .before .before .before .args .octets))) (c .before .before .before .before .before .before .before .before .before .before .before .before .before .before .before .before .before .pre) _ _ _ _ _ _

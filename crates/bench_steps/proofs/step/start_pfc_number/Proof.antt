@@ -1,28 +1,23 @@
+-- `bench_steps::step::start_pfc_number` meets its contract. Assumes nothing.
 use Rattle.bench_steps.specs.Chains.{startPfcNumber}
 use Rattle.ground.proofs.Pick.{pick-yes, pick-no}
 use borrow.Author.Tests.{eq-eqb, ne-eqb, lt-ltb, le-ltb, le-leb, lt-leb}
 use mathlib.Core.Path.{sym, ap, _∙_}
 use Rattle.bench_steps.proofs.step.start_pfc_number.Statement.{statement}
 use Rattle.bench_steps.proofs.step.start_pfc_number.Tie as tie
-use Rattle.bench_steps.proofs.step.start_pfc_number.Reads as reads
-use Rattle.bench_steps.proofs.step.start_pfc_number.Lts as lts
 
--- src/step.rt:94:9
 returns : tie.Need-returns
 unfolding startPfcNumber
 returns c = sym (pick-yes _ _ (c .if1 .taken))
 
--- src/step.rt:97:9
 returns-2 : tie.Need-returns-2
 unfolding startPfcNumber
 returns-2 c = sym (pick-no _ _ (c .before .if1 .left) ∙ pick-yes _ _ (lt-ltb _ _ (c .if2 .taken)))
 
--- src/step.rt:100:9
 returns-3 : tie.Need-returns-3
 unfolding startPfcNumber
 returns-3 c = sym (pick-no _ _ (c .before .before .if1 .left) ∙ pick-no _ _ (le-ltb _ _ (c .before .if2 .left)) ∙ pick-yes _ _ (le-leb _ _ (c .if3 .taken)))
 
--- src/step.rt:90:1
 returns-4 : tie.Need-returns-4
 unfolding startPfcNumber
 returns-4 c = sym (pick-no _ _ (c .before .before .if1 .left) ∙ pick-no _ _ (le-ltb _ _ (c .before .if2 .left)) ∙ pick-no _ _ (lt-leb _ _ (c .if3 .left)))

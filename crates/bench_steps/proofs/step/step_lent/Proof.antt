@@ -1,3 +1,4 @@
+-- `bench_steps::step::step_lent` meets its contract. Assumes nothing.
 use Rattle.bench_steps.proofs.Decoding.{decoded-nonzero}
 use Rattle.bench_steps.proofs.Answered.{answers-asked, octets-answers}
 use Rattle.bench_steps.specs.Answers.{memoryOf}
@@ -6,227 +7,163 @@ use mathlib.Core.Path.{sym, _∙_}
 use borrow.Author.Needs.{needs}
 use Rattle.bench_steps.proofs.step.step_lent.Statement.{statement}
 use Rattle.bench_steps.proofs.step.step_lent.Tie as tie
-use Rattle.bench_steps.proofs.step.step_lent.Reads as reads
-use Rattle.bench_steps.proofs.step.step_lent.Lts as lts
-use Rattle.bench_steps.proofs.record.decode.Reads as decode-reads
-use Rattle.bench_steps.proofs.step.arrive.Reads as arrive-reads
-use Rattle.bench_steps.proofs.step.refused.Reads as refused-reads
-use Rattle.bench_steps.proofs.step.start_data.Reads as start-data-reads
-use Rattle.bench_steps.proofs.step.start_other.Reads as start-other-reads
-use Rattle.bench_steps.proofs.step.start_pfc.Reads as start-pfc-reads
-use Rattle.bench_steps.proofs.step.take_effect.Reads as take-effect-reads
-use Rattle.bench_steps.proofs.step.take_octets.Reads as take-octets-reads
-use Rattle.bench_steps.proofs.step.wait_for.Reads as wait-for-reads
 
--- src/step.rt:416:9
 decode-requires : tie.Need-decode-requires
 decode-requires c κs = search needs
 
--- src/step.rt:418:22
 enum-known-asked : tie.Need-enum-known-asked
 enum-known-asked c = search needs
 
--- src/step.rt:418:28
 wait-for-requires : tie.Need-wait-for-requires
 wait-for-requires c κs = search needs
 
--- src/step.rt:419:27
 enum-known-asked-2 : tie.Need-enum-known-asked-2
 enum-known-asked-2 c = search needs
 
--- src/step.rt:420:13
 start-data-requires : tie.Need-start-data-requires
 start-data-requires c κs = search needs
 
--- src/step.rt:422:48
 enum-told : tie.Need-enum-told
 enum-told c = search needs
 
--- src/step.rt:422:27
 arrive-requires : tie.Need-arrive-requires
 arrive-requires c κs = search needs
 
--- src/step.rt:423:28
 enum-known-asked-3 : tie.Need-enum-known-asked-3
 enum-known-asked-3 c = search needs
 
--- src/step.rt:423:39
 start-other-requires : tie.Need-start-other-requires
 start-other-requires c κs = search needs
 
--- src/step.rt:424:53
 enum-told-2 : tie.Need-enum-told-2
 enum-told-2 c = search needs
 
--- src/step.rt:424:29
 start-pfc-requires : tie.Need-start-pfc-requires
 start-pfc-requires c κs = search needs
 
--- src/step.rt:425:57
 enum-told-3 : tie.Need-enum-told-3
 enum-told-3 c = search needs
 
--- src/step.rt:425:31
 take-effect-requires : tie.Need-take-effect-requires
 take-effect-requires c κs = search needs
 
--- src/step.rt:426:28
 enum-known-asked-4 : tie.Need-enum-known-asked-4
 enum-known-asked-4 c = search needs
 
--- src/step.rt:427:13
 take-octets-requires : tie.Need-take-octets-requires
 take-octets-requires c κs = search needs
 
--- src/step.rt:429:25
 enum-known-asked-5 : tie.Need-enum-known-asked-5
 enum-known-asked-5 c = search needs
 
--- src/step.rt:429:36
 refused-requires : tie.Need-refused-requires
 refused-requires c κs = search needs
 
--- src/step.rt:404:1
 same-length : tie.Need-same-length
 same-length c = search needs
 
--- src/step.rt:404:1
 same-length-2 : tie.Need-same-length-2
 same-length-2 c = search needs
 
--- src/step.rt:404:1
 same-length-3 : tie.Need-same-length-3
 same-length-3 c = search needs
 
--- src/step.rt:404:1
 same-length-4 : tie.Need-same-length-4
 same-length-4 c = search needs
 
--- src/step.rt:404:1
 returns : tie.Need-returns
 returns c = answers-asked (sym (c .before .before .before .before .before .before .before .before .before .before .before .before .before .before .before .before .decode .ensures) ∙ c .before .before .before .before .before .before .before .before .before .before .before .before .before .before .asked .given .1) (c .before .before .before .before .before .before .before .before .wait-for .ensures)
 
--- src/step.rt:404:1
 same-length-5 : tie.Need-same-length-5
 same-length-5 c = search needs
 
--- src/step.rt:404:1
 same-length-6 : tie.Need-same-length-6
 same-length-6 c = search needs
 
--- src/step.rt:404:1
 same-length-7 : tie.Need-same-length-7
 same-length-7 c = search needs
 
--- src/step.rt:404:1
 same-length-8 : tie.Need-same-length-8
 same-length-8 c = search needs
 
--- src/step.rt:404:1
 returns-2 : tie.Need-returns-2
 returns-2 c = answers-asked (sym (c .before .before .before .before .before .before .before .before .before .before .before .before .before .before .before .before .decode .ensures) ∙ c .before .before .before .before .before .before .before .before .before .before .before .before .before .before .asked2 .given .1) (c .before .before .before .before .before .before .before .before .start-data .ensures)
 
--- src/step.rt:404:1
 same-length-9 : tie.Need-same-length-9
 same-length-9 c = search needs
 
--- src/step.rt:404:1
 same-length-10 : tie.Need-same-length-10
 same-length-10 c = search needs
 
--- src/step.rt:404:1
 same-length-11 : tie.Need-same-length-11
 same-length-11 c = search needs
 
--- src/step.rt:404:1
 same-length-12 : tie.Need-same-length-12
 same-length-12 c = search needs
 
--- src/step.rt:404:1
 returns-3 : tie.Need-returns-3
 returns-3 c = answers-asked (sym (c .before .before .before .before .before .before .before .before .before .before .before .before .before .before .before .decode .ensures) ∙ c .before .before .before .before .before .before .before .before .before .before .before .before .before .enum-told .given .1) (c .before .before .before .before .before .before .before .before .arrive .ensures)
 
--- src/step.rt:404:1
 same-length-13 : tie.Need-same-length-13
 same-length-13 c = search needs
 
--- src/step.rt:404:1
 same-length-14 : tie.Need-same-length-14
 same-length-14 c = search needs
 
--- src/step.rt:404:1
 same-length-15 : tie.Need-same-length-15
 same-length-15 c = search needs
 
--- src/step.rt:404:1
 same-length-16 : tie.Need-same-length-16
 same-length-16 c = search needs
 
--- src/step.rt:404:1
 returns-4 : tie.Need-returns-4
 returns-4 c = answers-asked (sym (c .before .before .before .before .before .before .before .before .before .before .before .before .before .before .before .before .decode .ensures) ∙ c .before .before .before .before .before .before .before .before .before .before .before .before .before .before .asked3 .given .1) (c .before .before .before .before .before .before .before .before .start-other .ensures)
 
--- src/step.rt:404:1
 same-length-17 : tie.Need-same-length-17
 same-length-17 c = search needs
 
--- src/step.rt:404:1
 same-length-18 : tie.Need-same-length-18
 same-length-18 c = search needs
 
--- src/step.rt:404:1
 same-length-19 : tie.Need-same-length-19
 same-length-19 c = search needs
 
--- src/step.rt:404:1
 same-length-20 : tie.Need-same-length-20
 same-length-20 c = search needs
 
--- src/step.rt:404:1
 returns-5 : tie.Need-returns-5
 returns-5 c = answers-asked (sym (c .before .before .before .before .before .before .before .before .before .before .before .before .before .before .before .decode .ensures) ∙ c .before .before .before .before .before .before .before .before .before .before .before .before .before .enum-told2 .given .1) (c .before .before .before .before .before .before .before .before .start-pfc .ensures)
 
--- src/step.rt:404:1
 same-length-21 : tie.Need-same-length-21
 same-length-21 c = search needs
 
--- src/step.rt:404:1
 same-length-22 : tie.Need-same-length-22
 same-length-22 c = search needs
 
--- src/step.rt:404:1
 same-length-23 : tie.Need-same-length-23
 same-length-23 c = search needs
 
--- src/step.rt:404:1
 same-length-24 : tie.Need-same-length-24
 same-length-24 c = search needs
 
--- src/step.rt:404:1
 returns-6 : tie.Need-returns-6
 returns-6 c = answers-asked (sym (c .before .before .before .before .before .before .before .before .before .before .before .before .before .before .before .decode .ensures) ∙ c .before .before .before .before .before .before .before .before .before .before .before .before .before .enum-told3 .given .1) (c .before .before .before .before .before .before .before .before .take-effect .ensures)
 
--- src/step.rt:404:1
 same-length-25 : tie.Need-same-length-25
 same-length-25 c = search needs
 
--- src/step.rt:404:1
 same-length-26 : tie.Need-same-length-26
 same-length-26 c = search needs
 
--- src/step.rt:404:1
 same-length-27 : tie.Need-same-length-27
 same-length-27 c = search needs
 
--- src/step.rt:404:1
 same-length-28 : tie.Need-same-length-28
 same-length-28 c = search needs
 
--- src/step.rt:404:1
 returns-7 : tie.Need-returns-7
 returns-7 c = answers-asked (sym (c .before .before .before .before .before .before .before .before .before .before .before .before .before .before .before .before .decode .ensures) ∙ c .before .before .before .before .before .before .before .before .before .before .before .before .before .before .asked4 .given .1) (c .before .before .before .before .before .before .before .before .take-octets .ensures)
 
--- src/step.rt:404:1
 returns-8 : tie.Need-returns-8
 returns-8 c = answers-asked (sym (c .before .before .before .before .decode .ensures) ∙ c .before .before .asked5 .given .1) (octets-answers (c .before .before .before .before .before .before .before .before .before .before .args .watch) (memoryOf (c .before .before .before .before .before .before .before .before .before .before .args .bench) (now (c .before .before .before .before .before .before .before .before .before .before .args .ends)) (now (c .before .before .before .before .before .before .before .before .before .before .args .kinds)) (now (c .before .before .before .before .before .before .before .before .before .before .args .pfc-ends)) (now (c .before .before .before .before .before .before .before .before .before .before .args .octets))) (c .before .before .before .before .before .before .before .before .before .before .pre) _ _ _ (decoded-nonzero _ _ (sym (c .before .before .before .before .decode .ensures) ∙ c .before .before .asked5 .given .1)) (c .refused .ensures .0) (c .refused .ensures .1))
 

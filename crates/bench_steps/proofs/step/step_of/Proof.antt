@@ -1,3 +1,4 @@
+-- `bench_steps::step::step_of` meets its contract. Assumes nothing.
 use Rattle.bench_steps.proofs.Answered.{clamp-answers, step-refused, step-accepted}
 use Rattle.bench_steps.specs.declared.state.Bench.{Bench}
 use Rattle.bench_steps.specs.Answers.{memoryOf}
@@ -7,32 +8,22 @@ use mathlib.Core.Path.{_≡_, ap}
 use borrow.Author.Needs.{needs}
 use Rattle.bench_steps.proofs.step.step_of.Statement.{statement}
 use Rattle.bench_steps.proofs.step.step_of.Tie as tie
-use Rattle.bench_steps.proofs.step.step_of.Reads as reads
-use Rattle.bench_steps.proofs.step.step_of.Lts as lts
-use Rattle.bench_steps.proofs.step.clamped.Reads as clamped-reads
-use Rattle.bench_steps.proofs.step.step_lent.Reads as step-lent-reads
 
--- src/step.rt:537:9
 clamped-requires : tie.Need-clamped-requires
 clamped-requires c κs = search needs
 
--- src/step.rt:538:39
 slice-aggregate-step-lent : tie.Need-slice-aggregate-step-lent
 slice-aggregate-step-lent c = search needs
 
--- src/step.rt:538:50
 slice-aggregate-step-lent-2 : tie.Need-slice-aggregate-step-lent-2
 slice-aggregate-step-lent-2 c = search needs
 
--- src/step.rt:538:62
 slice-aggregate-step-lent-3 : tie.Need-slice-aggregate-step-lent-3
 slice-aggregate-step-lent-3 c = search needs
 
--- src/step.rt:538:77
 slice-aggregate-step-lent-4 : tie.Need-slice-aggregate-step-lent-4
 slice-aggregate-step-lent-4 c = search needs
 
--- src/step.rt:538:9
 step-lent-requires : tie.Need-step-lent-requires
 step-lent-requires c κs =
     let a = c .before .before .before .before .before .before .args in
@@ -50,7 +41,6 @@ step-lent-requires c κs =
       pfc-count = omega (arith, ap (λ (b : Bench). b .«pfc_count») (c .before .before .before .before .clamped .ensures));
     }
 
--- src/step.rt:547:9
 returns : tie.Need-returns
 returns c =
     let a = c .before .before .before .before .before .before .before .before .before .before .before .before .before .args in
@@ -60,7 +50,6 @@ returns c =
     let pends : length (a .last-ends) ≡ 128 = search needs in
     step-refused (a .watch) m _ _ _ ends kinds pends (clamp-answers m _ (c .before .before .before .before .before .before .before .before .before .before .before .clamped .ensures) (c .before .before .before .before .before .before .step-lent .ensures)) (c .if1 .taken)
 
--- src/step.rt:522:1
 returns-2 : tie.Need-returns-2
 returns-2 c =
     let a = c .before .before .before .before .before .before .before .before .before .before .before .before .before .before .args in

@@ -1,3 +1,4 @@
+-- `bench_steps::step::take_effect` meets its contract. Assumes nothing.
 use Rattle.bench_steps.proofs.Answered.{told-refused, take-effect-number, ended-some, take-effect-told}
 use lib.Seq.{length-take-le}
 use Rattle.bench_steps.proofs.Answered.{told-refused, take-effect-number, ended-some, take-effect-answers}
@@ -15,33 +16,19 @@ use Prim.Native.Nat.{ℕ, _+_, _*_, _-_, _≤_}
 use borrow.Author.Needs.{needs}
 use Rattle.bench_steps.proofs.step.take_effect.Statement.{statement}
 use Rattle.bench_steps.proofs.step.take_effect.Tie as tie
-use Rattle.bench_steps.proofs.step.take_effect.Reads as reads
-use Rattle.bench_steps.proofs.step.take_effect.Lts as lts
-use Rattle.bench_steps.proofs.rows.shift.Reads as shift-reads
-use Rattle.bench_steps.proofs.rows.shift_octets.Reads as shift-octets-reads
-use Rattle.bench_steps.proofs.step.effect.Reads as effect-reads
-use Rattle.bench_steps.proofs.step.none_ended.Reads as none-ended-reads
-use Rattle.bench_steps.proofs.step.oldest.Reads as oldest-reads
-use Rattle.bench_steps.proofs.step.refused.Reads as refused-reads
-use Rattle.frame.proofs.read.Reads as read-reads
 
--- src/step.rt:362:19
 oldest-requires : tie.Need-oldest-requires
 oldest-requires c κs = search needs
 
--- src/step.rt:362:8
 none-ended-requires : tie.Need-none-ended-requires
 none-ended-requires c κs = search needs
 
--- src/step.rt:363:9
 refused-requires : tie.Need-refused-requires
 refused-requires c κs = search needs
 
--- src/step.rt:363:9
 same-length : tie.Need-same-length
 same-length c = search needs
 
--- src/step.rt:363:9
 returns : tie.Need-returns
 returns c =
     told-refused (c .before .before .before .before .before .before .before .before .before .args .watch) (memoryOf (c .before .before .before .before .before .before .before .before .before .args .bench) (now (c .before .before .before .before .before .before .before .before .before .args .ends)) (now (c .before .before .before .before .before .before .before .before .before .args .kinds)) (now (c .before .before .before .before .before .before .before .before .before .args .pfc-ends)) (now (c .before .before .before .before .before .before .before .before .before .args .octets))) record'.TakeEffect 37 _ _ (c .before .before .before .before .before .before .before .before .before .pre)
@@ -50,51 +37,39 @@ returns c =
     (c .refused .ensures .0)
     (c .refused .ensures .1)
 
--- src/step.rt:366:29
 slice-reshare-prefix-read : tie.Need-slice-reshare-prefix-read
 slice-reshare-prefix-read c = search needs
 
--- src/step.rt:366:29
 slice-aggregate-read : tie.Need-slice-aggregate-read
 slice-aggregate-read c = sym (length-take-le 60 (now (c .before .before .before .before .before .before .before .before .before .before .args .octets)) (omega (arith, (c .before .before .before .before .before .before .before .before .before .before .pre))))
 
--- src/step.rt:366:9
 read-requires : tie.Need-read-requires
 read-requires c κs = search needs
 
--- src/step.rt:367:16
 sub-left : tie.Need-sub-left
 sub-left c = omega (arith, (ended-some (c .before .before .before .before .before .before .before .before .before .before .before .before .args .bench .«pfc_count») (now (c .before .before .before .before .before .before .before .before .before .before .before .before .args .pfc-ends)) (c .before .before .before .before .before .before .before .before .before .before .before .before .args .bench .now) (ap (λ (e : Moment). noneEnded e (c .before .before .before .before .before .before .before .before .before .before .before .before .args .bench .now)) (sym (c .before .before .before .before .before .before .oldest .ensures)) ∙ sym (c .before .before .before .before .before .none-ended .ensures) ∙ c .before .before .before .before .if1 .left)))
 
--- src/step.rt:369:5
 shift-requires : tie.Need-shift-requires
 shift-requires c κs = search needs
 
--- src/step.rt:370:32
 mul-shift-octets : tie.Need-mul-shift-octets
 mul-shift-octets c = search needs
 
--- src/step.rt:370:5
 shift-octets-requires : tie.Need-shift-octets-requires
 shift-octets-requires c κs = search needs
 
--- src/step.rt:372:9
 effect-requires : tie.Need-effect-requires
 effect-requires c κs = search needs
 
--- src/step.rt:375:5
 refused-requires-2 : tie.Need-refused-requires-2
 refused-requires-2 c κs = search needs
 
--- src/step.rt:351:1
 same-length-2 : tie.Need-same-length-2
 same-length-2 c = search needs
 
--- src/step.rt:351:1
 same-length-3 : tie.Need-same-length-3
 same-length-3 c = search needs
 
--- src/step.rt:351:1
 returns-2 : tie.Need-returns-2
 returns-2 c =
     let a = c .before .before .before .before .before .before .before .before .before .before .before .before .before .before .before .before .before .before .before .before .before .before .args in

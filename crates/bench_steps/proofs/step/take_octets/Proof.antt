@@ -1,3 +1,4 @@
+-- `bench_steps::step::take_octets` meets its contract. Assumes nothing.
 use Rattle.bench_steps.proofs.Answered.{told-refused, take-octets-number, take-octets-recorder, take-octets-answers}
 use Rattle.bench_steps.specs.declared.record.Record.the-variants as record'
 use Rattle.bench_steps.specs.Answers.{memoryOf, Lent}
@@ -10,20 +11,13 @@ use Prim.Native.Nat.{ℕ, _+_, _*_, _-_, _≤_}
 use borrow.Author.Needs.{needs}
 use Rattle.bench_steps.proofs.step.take_octets.Statement.{statement}
 use Rattle.bench_steps.proofs.step.take_octets.Tie as tie
-use Rattle.bench_steps.proofs.step.take_octets.Reads as reads
-use Rattle.bench_steps.proofs.step.take_octets.Lts as lts
-use Rattle.bench_steps.proofs.step.refused.Reads as refused-reads
-use Rattle.recorder.proofs.watch.taken.Reads as taken-reads
 
--- src/step.rt:393:9
 taken-requires : tie.Need-taken-requires
 taken-requires c κs = search needs
 
--- src/step.rt:395:9
 refused-requires : tie.Need-refused-requires
 refused-requires c κs = search needs
 
--- src/step.rt:395:9
 returns : tie.Need-returns
 returns c =
     told-refused (c .before .before .before .before .before .before .before .before .before .args .watch) (memoryOf (c .before .before .before .before .before .before .before .before .before .args .bench) (now (c .before .before .before .before .before .before .before .before .before .args .ends)) (now (c .before .before .before .before .before .before .before .before .before .args .kinds)) (now (c .before .before .before .before .before .before .before .before .before .args .pfc-ends)) (now (c .before .before .before .before .before .before .before .before .before .args .octets))) (record'.TakeOctets (c .before .before .before .before .before .before .before .before .before .args .priority) (c .before .before .before .before .before .before .before .before .before .args .count)) (c .before .before .before .taken .result .refusal) _ _ (c .before .before .before .before .before .before .before .before .before .pre)
@@ -32,11 +26,9 @@ returns c =
     (c .refused .ensures .0)
     (c .refused .ensures .1)
 
--- src/step.rt:400:5
 refused-requires-2 : tie.Need-refused-requires-2
 refused-requires-2 c κs = search needs
 
--- src/step.rt:379:1
 returns-2 : tie.Need-returns-2
 returns-2 c =
     take-octets-answers (c .before .before .before .before .before .before .before .before .before .before .args .watch) (memoryOf (c .before .before .before .before .before .before .before .before .before .before .args .bench) (now (c .before .before .before .before .before .before .before .before .before .before .args .ends)) (now (c .before .before .before .before .before .before .before .before .before .before .args .kinds)) (now (c .before .before .before .before .before .before .before .before .before .before .args .pfc-ends)) (now (c .before .before .before .before .before .before .before .before .before .before .args .octets))) (c .before .before .before .before .before .before .before .before .before .before .pre) (c .before .before .before .before .before .before .before .before .before .before .args .priority) (c .before .before .before .before .before .before .before .before .before .before .args .count) _ _ _

@@ -1,3 +1,4 @@
+-- `bench_steps::step::wait_for` meets its contract. Assumes nothing.
 use Rattle.bench_steps.proofs.Answered.{told-refused, wait-41, wait-number, wait-answers}
 use Rattle.bench_steps.proofs.Walking.{walkOf}
 use Rattle.bench_steps.specs.Walk.{walkedBy}
@@ -15,25 +16,13 @@ use Prim.Native.Nat.{ℕ, _+_, _*_, _-_, _≤_, _^_}
 use borrow.Author.Needs.{needs}
 use Rattle.bench_steps.proofs.step.wait_for.Statement.{statement}
 use Rattle.bench_steps.proofs.step.wait_for.Tie as tie
-use Rattle.bench_steps.proofs.step.wait_for.Reads as reads
-use Rattle.bench_steps.proofs.step.wait_for.Lts as lts
-use Rattle.bench_steps.proofs.step.oldest.Reads as oldest-reads
-use Rattle.bench_steps.proofs.step.overrun.Reads as overrun-reads
-use Rattle.bench_steps.proofs.step.refused.Reads as refused-reads
-use Rattle.bench_steps.proofs.wait.walked.Reads as walked-reads
-use Rattle.recorder.proofs.watch.refresh_of.Reads as refresh-of-reads
-use Rattle.recorder.proofs.watch.with_due.Reads as with-due-reads
-use Rattle.units.proofs.sum.Reads as sum-reads
 
--- src/step.rt:197:28
 sum-requires : tie.Need-sum-requires
 sum-requires c κs = search needs
 
--- src/step.rt:198:9
 refused-requires : tie.Need-refused-requires
 refused-requires c κs = search needs
 
--- src/step.rt:198:9
 returns : tie.Need-returns
 returns c =
     told-refused (c .before .before .before .before .before .before .before .args .watch) (memoryOf (c .before .before .before .before .before .before .before .args .bench) (now (c .before .before .before .before .before .before .before .args .ends)) (now (c .before .before .before .before .before .before .before .args .kinds)) (now (c .before .before .before .before .before .before .before .args .pfc-ends)) (now (c .before .before .before .before .before .before .before .args .octets))) (record'.Wait (c .before .before .before .before .before .before .before .args .n)) 41 _ _ (c .before .before .before .before .before .before .before .pre)
@@ -42,43 +31,33 @@ returns c =
     (c .refused .ensures .0)
     (c .refused .ensures .1)
 
--- src/step.rt:203:9
 refresh-of-requires : tie.Need-refresh-of-requires
 refresh-of-requires c κs = search needs
 
--- src/step.rt:209:9
 walked-requires : tie.Need-walked-requires
 walked-requires c κs = search needs
 
--- src/step.rt:211:9
 oldest-requires : tie.Need-oldest-requires
 oldest-requires c κs = search needs
 
--- src/step.rt:212:9
 oldest-requires-2 : tie.Need-oldest-requires-2
 oldest-requires-2 c κs = search needs
 
--- src/step.rt:213:9
 sum-requires-2 : tie.Need-sum-requires-2
 sum-requires-2 c κs = search needs
 
--- src/step.rt:214:8
 overrun-requires : tie.Need-overrun-requires
 overrun-requires c κs = search needs
 
--- src/step.rt:215:9
 refused-requires-2 : tie.Need-refused-requires-2
 refused-requires-2 c κs = search needs
 
--- src/step.rt:215:9
 same-length : tie.Need-same-length
 same-length c = search needs
 
--- src/step.rt:215:9
 same-length-2 : tie.Need-same-length-2
 same-length-2 c = search needs
 
--- src/step.rt:215:9
 returns-2 : tie.Need-returns-2
 returns-2 c =
     let near : c .before .before .before .before .before .before .before .before .before .before .before .before .before .before .before .before .before .before .args .bench .now + c .before .before .before .before .before .before .before .before .before .before .before .before .before .before .before .before .before .before .args .n ≤ 2 ^ 40 = omega (arith, c .before .before .before .before .before .before .before .before .before .before .before .before .before .sum .ensures, c .before .before .before .before .before .before .before .before .before .before .before .before .if1 .left) in
@@ -91,23 +70,18 @@ returns-2 c =
     (c .refused2 .ensures .0)
     (c .refused2 .ensures .1)
 
--- src/step.rt:221:9
 with-due-requires : tie.Need-with-due-requires
 with-due-requires c κs = search needs
 
--- src/step.rt:223:5
 refused-requires-3 : tie.Need-refused-requires-3
 refused-requires-3 c κs = search needs
 
--- src/step.rt:185:1
 same-length-3 : tie.Need-same-length-3
 same-length-3 c = search needs
 
--- src/step.rt:185:1
 same-length-4 : tie.Need-same-length-4
 same-length-4 c = search needs
 
--- src/step.rt:185:1
 returns-3 : tie.Need-returns-3
 returns-3 c =
     let near : c .before .before .before .before .before .before .before .before .before .before .before .before .before .before .before .before .before .before .before .before .args .bench .now + c .before .before .before .before .before .before .before .before .before .before .before .before .before .before .before .before .before .before .before .before .args .n ≤ 2 ^ 40 = omega (arith, c .before .before .before .before .before .before .before .before .before .before .before .before .before .before .before .sum .ensures, c .before .before .before .before .before .before .before .before .before .before .before .before .before .before .if1 .left) in

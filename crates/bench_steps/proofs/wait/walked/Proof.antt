@@ -1,3 +1,4 @@
+-- `bench_steps::wait::walked` meets its contract. Assumes nothing.
 use Rattle.bench_steps.proofs.Walking.{walkOf, walk-more, walk-none, walk-caught}
 use Rattle.bench_steps.specs.declared.wait.Walk.{Walk}
 use Rattle.bench_steps.specs.Walk.{ticked, walkedBy}
@@ -9,10 +10,6 @@ use mathlib.Core.Path.{_≡_, sym, ap, _∙_}
 use Prim.Native.Nat.{ℕ, _+_, _-_, _≤_}
 use Rattle.bench_steps.proofs.wait.walked.Statement.{statement}
 use Rattle.bench_steps.proofs.wait.walked.Tie as tie
-use Rattle.bench_steps.proofs.wait.walked.Reads as reads
-use Rattle.bench_steps.proofs.wait.walked.Lts as lts
-use Rattle.bench_steps.proofs.wait.tick.Reads as tick-reads
-use Rattle.recorder.proofs.watch.due_by.Reads as due-by-reads
 
 abbrev Inv-loop : tie.InvT-loop
 Inv-loop refresh n w₀ i₀ w i = (i ≤ n) × (w ≡ walkedBy w₀ refresh i)
@@ -20,37 +17,30 @@ Inv-loop refresh n w₀ i₀ w i = (i ≤ n) × (w ≡ walkedBy w₀ refresh i)
 abbrev μ-loop : tie.MeasureT-loop
 μ-loop refresh n w₀ i₀ w i = n - i
 
--- src/wait.rt:52:14
 due-by-requires : tie.Need-due-by-requires Inv-loop μ-loop
 due-by-requires c κs = search needs
 
--- src/wait.rt:55:5
 loop-holds : tie.Need-loop-holds Inv-loop μ-loop
 loop-holds c =
     let a = c .before .before .args .walk in
     let long : length (a .head .timers) ≡ 8 = search needs in
     (omega arith, ap (walkOf (a .now) (a .head)) (c .due-by .ensures) ∙ walk-none (c .before .before .args .refresh) (a .now) (a .head) (a .due) long ∙ ap (λ (d : Moment). walkedBy (walkOf (a .now) (a .head) d) (c .before .before .args .refresh) 0) (sym (c .due-by .ensures)))
 
--- src/wait.rt:56:13
 tick-requires : tie.Need-tick-requires Inv-loop μ-loop
 unfolding walkedBy
 tick-requires c κs =
     let at : c .before .loop .w .now ≡ c .before .before .before .before .args .walk .now + c .before .loop .i = ap (λ (x : Walk). x .now) (c .before .loop .inv .1) in
     omega arith
 
--- src/wait.rt:58:9
 add-i : tie.Need-add-i Inv-loop μ-loop
 add-i c = search needs
 
--- src/wait.rt:55:5
 loop-less : tie.Need-loop-less Inv-loop μ-loop
 loop-less c = search needs
 
--- src/wait.rt:55:5
 loop-again : tie.Need-loop-again Inv-loop μ-loop
 loop-again c = (omega arith, c .tick .ensures ∙ ap (λ (x : Walk). ticked x (c .before .before .before .before .before .args .refresh)) (c .before .before .loop .inv .1) ∙ walk-more _ _ _)
 
--- src/wait.rt:43:1
 returns : tie.Need-returns Inv-loop μ-loop
 returns c =
     let a = c .before .before .before .before .args .walk in
