@@ -24,17 +24,16 @@ use Rattle.frame.specs.declared.Verdict.{Verdict}
 use Rattle.bench_steps.specs.Answers.{memoryOf, Lent, memoryFor, Answers, clampedBench, answerOf}
 use Rattle.bench_steps.specs.Records.{decoded}
 use Rattle.bench_steps.specs.declared.step.Answer.{Answer}
-use Rattle.bench_steps.specs.Chains.{lengthRefused, startDataNumber, startOtherNumber, startPfcNumber, oldestOf, noneEnded, overrunBy}
+use Rattle.bench_steps.specs.Chains.{lengthRefused, startDataNumber, startOtherNumber, startPfcNumber, oldestOf, noneEnded, overrunBy, lateAfter}
 use Rattle.bench_steps.specs.Held.{kindOf, dataHeld, pfcHeld, over, octetsOf, shifted, viewOf, holding}
 use Rattle.bench_steps.specs.State.{DataFrame, PfcFrame, State}
 use Rattle.units.specs.Units.{within64}
 use Rattle.bench_steps.proofs.Moments.{past-cut}
 use Rattle.bench_steps.proofs.Shifting.{shift-length}
-use Rattle.bench_steps.proofs.Walking.{walkOf}
 use Rattle.bench_steps.specs.Step.{after, sourceB, addressA, dueThen, effectOf, lengthOutside, dataOverdue, pfcOverdue, pastDue, overrun, noDataEnded, noPfcEnded, notDue, waitRefusal, startDataRefusal, arriveRefusal, startOtherRefusal, startPfcRefusal, takeEffectRefusal, refusalOf, nextOf, waited, dataStarted, arrived, otherStarted, pfcStarted, tookEffect, octetsTaken}
 use Rattle.bench_steps.specs.declared.record.Record.{Record}
 use Rattle.bench_steps.specs.declared.record.Record.the-variants.{Wait, StartData, Arrive, StartOther, StartPfc, TakeEffect, TakeOctets, Refused}
-use Rattle.bench_steps.specs.Walk.{walkedBy}
+use Rattle.bench_steps.specs.Walk.{walkedBy, walkFrom, afterWalk}
 use Rattle.bench_steps.specs.declared.wait.Walk.{Walk}
 use Rattle.bench_steps.specs.declared.state.Bench.{Bench}
 use Rattle.bench_steps.specs.declared.state.Memory.{Memory}
@@ -464,28 +463,30 @@ module _ (w : Watch) (m : Memory) (lent : Lent m) where
   unfolding refusalOf waitRefusal viewOf
   wait-41 n far = sym (pick-yes _ _ (lt-ltb (2 ^ 40) (m .bench .now + n) far))
 
-  abbrev walkFor : ℕ → Walk
-  walkFor n = walkedBy (walkOf (m .bench .now) (m .bench .head) (m .bench .recorder .due)) (refreshOf w (m .bench .recorder)) n
-
-  pub wait-number : (n : ℕ) (walk : Walk) (late : Bool) → m .bench .now + n ≤ 2 ^ 40 → walk ≡ walkFor n → late ≡ overrunBy (oldestOf (m .bench .«data_count») (m .«data_ends»)) (w .kept .«data» .0) (oldestOf (m .bench .«pfc_count») (m .«pfc_ends»)) (w .kept .request .0) (walk .due) (within64 (w .kept .generation .0 + w .kept .wire .0)) (walk .now) → pick late 40 0 ≡ refusalOf w (viewOf m) (Wait n)
-  unfolding refusalOf waitRefusal viewOf walkedBy
+  wait-number : (n : ℕ) (walk : Walk) (late : Bool) → m .bench .now + n ≤ 2 ^ 40 → walk ≡ walkFrom w (m .bench) n → late ≡ lateAfter w (m .bench) (m .«data_ends») (m .«pfc_ends») walk → pick late 40 0 ≡ refusalOf w (viewOf m) (Wait n)
+  unfolding refusalOf waitRefusal viewOf walkedBy walkFrom lateAfter
   wait-number n walk late near is-walk is-late =
       ap (λ (b : Bool). pick b 40 0)
       (is-late ∙
-      ap (λ (x : Walk). overrunBy (oldestOf (m .bench .«data_count») (m .«data_ends»)) (w .kept .«data» .0) (oldestOf (m .bench .«pfc_count») (m .«pfc_ends»)) (w .kept .request .0) (x .due) (within64 (w .kept .generation .0 + w .kept .wire .0)) (x .now)) is-walk ∙
+      ap (lateAfter w (m .bench) (m .«data_ends») (m .«pfc_ends»)) is-walk ∙
       overrun-is w m lent (m .bench .now + n) (omega arith)) ∙
       sym (pick-no _ _ (le-ltb (2 ^ 40) (m .bench .now + n) near))
 
-  pub wait-answers : (n told : ℕ) (walk : Walk) (recorder : Recorder) (bench : Bench) → walk ≡ walkFor n → recorder ≡ withDue (m .bench .recorder) (walk .due) → 0 ≡ refusalOf w (viewOf m) (Wait n) → told ≡ 0 → bench ≡ benchMade (m .bench) (walk .head) recorder (walk .now) (m .bench .«a_free») (m .bench .«b_free») (m .bench .«data_count») (m .bench .«pfc_count») → Answers w m (Wait n) told (sameRows bench)
-  unfolding nextOf waited viewOf walkedBy
-  wait-answers n told walk recorder bench is-walk is-recorder accepted zero-told made =
+  wait-accepted : (n told : ℕ) (walk : Walk) (bench : Bench) → walk ≡ walkFrom w (m .bench) n → 0 ≡ refusalOf w (viewOf m) (Wait n) → told ≡ 0 → bench ≡ afterWalk (m .bench) walk → Answers w m (Wait n) told (sameRows bench)
+  unfolding nextOf waited viewOf walkedBy walkFrom afterWalk
+  wait-accepted n told walk bench is-walk accepted zero-told made =
       told-accepted w m (Wait n) told bench _ _ _ _ _ accepted
       (wait-memory w m lent n)
       (same-rows-lent _ refl refl)
       zero-told
-      (made ∙
-      ap (λ (r : Recorder). benchMade (m .bench) (walk .head) r (walk .now) (m .bench .«a_free») (m .bench .«b_free») (m .bench .«data_count») (m .bench .«pfc_count»)) is-recorder ∙
-      ap (λ (x : Walk). benchMade (m .bench) (x .head) (withDue (m .bench .recorder) (x .due)) (x .now) (m .bench .«a_free») (m .bench .«b_free») (m .bench .«data_count») (m .bench .«pfc_count»)) is-walk)
+      (made ∙ ap (afterWalk (m .bench)) is-walk)
+
+  pub wait-answers : (n told : ℕ) (walk : Walk) (late : Bool) (after bench : Bench) → m .bench .now + n ≤ 2 ^ 40 → walk ≡ walkFrom w (m .bench) n → late ≡ lateAfter w (m .bench) (m .«data_ends») (m .«pfc_ends») walk → after ≡ afterWalk (m .bench) walk → told ≡ pick late 40 0 → bench ≡ pick late (m .bench) after → Answers w m (Wait n) told (sameRows bench)
+  unfolding pick
+  wait-answers n told walk true after bench near is-walk is-late is-after is-told is-bench =
+      told-refused w m (Wait n) 40 told bench lent (wait-number n walk true near is-walk is-late) (λ e. omega arith) is-told is-bench
+  wait-answers n told walk false after bench near is-walk is-late is-after is-told is-bench =
+      wait-accepted n told walk bench is-walk (wait-number n walk false near is-walk is-late) is-told (is-bench ∙ is-after)
 
   -- octets that are refused before anything is asked
   pub octets-answers : (number told : ℕ) (bench : Bench) → (number ≡ 0 → ⊥) → told ≡ number → bench ≡ m .bench → Answers w m (Refused number) told (sameRows bench)

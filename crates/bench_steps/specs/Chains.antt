@@ -1,12 +1,16 @@
 -- The refusals of each kind over plain numbers, as the code tries them.
-use Prim.Native.Nat.{ℕ}
+use Prim.Native.Nat.{ℕ, _+_}
 use mathlib.Core.Bool.{Bool, true, false}
 use mathlib.Core.List.{List}
 use lib.Dec.{ltb, leb, eqb}
 use lib.ListN.{getD}
 use Rattle.recorder.specs.declared.watch.Moment.{Moment}
 use Rattle.recorder.specs.declared.watch.Moment.the-variants.{Never, At}
+use Rattle.recorder.specs.declared.watch.Watch.{Watch}
+use Rattle.units.specs.Units.{within64}
 use Rattle.bench_steps.specs.Step.{pastDue}
+use Rattle.bench_steps.specs.declared.state.Bench.{Bench}
+use Rattle.bench_steps.specs.declared.wait.Walk.{Walk}
 use Rattle.ground.specs.Pick.{pick}
 
 unfoldable pub lengthRefused : ℕ → ℕ → Bool
@@ -38,3 +42,15 @@ noneEnded (At end) now = ltb now end
 unfoldable pub overrunBy : Moment → ℕ → Moment → ℕ → Moment → ℕ → ℕ → Bool
 overrunBy dataEnd dataBound pfcEnd pfcBound due dueBound now =
     pick (pastDue dataEnd dataBound now) true (pick (pastDue pfcEnd pfcBound now) true (pastDue due dueBound now))
+
+-- 40 where a walk ends
+unfoldable pub lateAfter : Watch → Bench → List ℕ → List ℕ → Walk → Bool
+lateAfter w bench dataEnds pfcEnds walk =
+    overrunBy
+    (oldestOf (bench .«data_count») dataEnds)
+    (w .kept .«data» .0)
+    (oldestOf (bench .«pfc_count») pfcEnds)
+    (w .kept .request .0)
+    (walk .due)
+    (within64 (w .kept .generation .0 + w .kept .wire .0))
+    (walk .now)

@@ -13,15 +13,17 @@ use recorder::watch::Recorder;
 use recorder::watch::Watch;
 ghost use mathlib.Core.Path.{_≡_};
 ghost use mathlib.Core.Bool.{Bool};
-ghost use Prim.Native.Nat.{_+_, _/_, _%_, _≤_, min};
+ghost use Prim.Native.Nat.{_+_, _/_, _%_, _^_, _≤_, min};
 ghost use mathlib.Core.List.{_++_};
 ghost use lib.ListN.{length, take, drop};
 ghost use Rattle.frame.specs.Build.{builtFrame};
 ghost use Rattle.recorder.specs.Watching.{arrivedAt};
 ghost use Rattle.bench_steps.specs.Answers.{Answers, Lent, memoryOf, clampedBench, answerOf};
-ghost use Rattle.bench_steps.specs.Chains.{lengthRefused, oldestOf, noneEnded, overrunBy, startDataNumber, startOtherNumber, startPfcNumber};
+ghost use Rattle.bench_steps.specs.Chains.{lengthRefused, oldestOf, noneEnded, overrunBy, lateAfter, startDataNumber, startOtherNumber, startPfcNumber};
 ghost use Rattle.bench_steps.specs.Step.{pastDue, notDue, effectOf, sourceB};
 ghost use Rattle.bench_steps.specs.Records.{decoded};
+ghost use Rattle.bench_steps.specs.Walk.{walkFrom, afterWalk};
+ghost use Rattle.ground.specs.Pick.{pick};
 
 // What a step answers: document 01's number, or 0, and what goes by value after it.
 pub struct Stepped {
@@ -204,7 +206,66 @@ fn start_data(
     refused(0, next)
 }
 
-// Kind 01: n octet times pass, all of them or none. A bound that is overrun stays overrun, so the bounds are tried at the end.
+// A wait's walk from where the bench stands.
+fn walk_from(watch: Watch, bench: Bench, n: u16) -> Walk
+    requires { ⌜ bench .now + n ≤ 2 ^ 40 ⌝ }
+    ensures { λ r. ⌜ r ≡ walkFrom watch bench n ⌝ }
+{
+    let head = bench.head;
+    let r = bench.recorder;
+    let due = r.due;
+    let start = Walk {
+        now: bench.now,
+        head,
+        due,
+    };
+    wait::walked(start, recorder::watch::refresh_of(r, watch), n as u64)
+}
+
+// 40: a bound is overrun where a walk ends. One that is overrun on the way stays overrun.
+fn late_after(watch: Watch, bench: Bench, ends: &[u64], pfc_ends: &[u64], walk: Walk) -> bool
+    requires { ⌜ (1 ≤ length (now ends)) × (1 ≤ length (now «pfc_ends»)) ⌝ }
+    ensures { λ r. ⌜ r ≡ lateAfter watch bench (now (ends .entry)) (now («pfc_ends» .entry)) walk ⌝ }
+{
+    let due = walk.due;
+    overrun(
+        oldest(ends, bench.data_count),
+        watch.kept.data.0,
+        oldest(pfc_ends, bench.pfc_count),
+        watch.kept.request.0,
+        due,
+        units::sum(watch.kept.generation.0, watch.kept.wire.0),
+        walk.now,
+    )
+}
+
+// The state where a walk ends.
+fn after_walk(bench: Bench, walk: Walk) -> Bench
+    ensures { λ r. ⌜ r ≡ afterWalk bench walk ⌝ }
+{
+    let r = bench.recorder;
+    let due = walk.due;
+    let head = walk.head;
+    let after = recorder::watch::with_due(r, due);
+    let mut next = bench;
+    next.now = walk.now;
+    next.head = head;
+    next.recorder = after;
+    next
+}
+
+// A wait is taken whole or refused whole.
+fn whole_or_none(late: bool, before: Bench, after: Bench) -> Stepped
+    ensures { λ r. ⌜ (r .refusal ≡ pick late 40 0) × (r .bench ≡ pick late before after) ⌝ }
+{
+    if late {
+        refused(40, before)
+    } else {
+        refused(0, after)
+    }
+}
+
+// Kind 01: n octet times pass, all of them or none.
 fn wait_for(
     watch: Watch,
     bench: Bench,
@@ -220,38 +281,9 @@ fn wait_for(
     if 1_099_511_627_776 < units::sum(bench.now, n as u64) {
         return refused(41, bench);
     }
-    let head = bench.head;
-    let r = bench.recorder;
-    let due = r.due;
-    let refresh = recorder::watch::refresh_of(r, watch);
-    let start = Walk {
-        now: bench.now,
-        head,
-        due,
-    };
-    let w = wait::walked(start, refresh, n as u64);
-    let late = w.due;
-    let data = oldest(ends, bench.data_count);
-    let pfc = oldest(pfc_ends, bench.pfc_count);
-    let bound = units::sum(watch.kept.generation.0, watch.kept.wire.0);
-    if overrun(
-        data,
-        watch.kept.data.0,
-        pfc,
-        watch.kept.request.0,
-        late,
-        bound,
-        w.now,
-    ) {
-        return refused(40, bench);
-    }
-    let mut next = bench;
-    next.now = w.now;
-    let timers = w.head;
-    next.head = timers;
-    let after = recorder::watch::with_due(r, late);
-    next.recorder = after;
-    refused(0, next)
+    let walk = walk_from(watch, bench, n);
+    let late = late_after(watch, bench, ends, pfc_ends, walk);
+    whole_or_none(late, bench, after_walk(bench, walk))
 }
 
 // A data frame reaches B. A number above 7 is no priority and changes nothing.

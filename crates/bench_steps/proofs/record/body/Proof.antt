@@ -55,7 +55,9 @@ word-at-requires-4 c κs = search needs
 
 returns-7 : tie.Need-returns-7
 unfolding bodyOf
-returns-7 c = ap₂ TakeOctets (c .before .octet-at2 .ensures) (c .word-at4 .ensures) ∙ sym (pick-no _ _ (ne-eqb (c .before .before .before .before .before .before .before .before .before .args .kind) 1 (c .before .before .before .before .before .before .before .if1 .left)) ∙ pick-no _ _ (ne-eqb (c .before .before .before .before .before .before .before .before .before .args .kind) 2 (c .before .before .before .before .before .before .if2 .left)) ∙ pick-no _ _ (ne-eqb (c .before .before .before .before .before .before .before .before .before .args .kind) 3 (c .before .before .before .before .before .if3 .left)) ∙ pick-no _ _ (ne-eqb (c .before .before .before .before .before .before .before .before .before .args .kind) 4 (c .before .before .before .before .if4 .left)) ∙ pick-no _ _ (ne-eqb (c .before .before .before .before .before .before .before .before .before .args .kind) 5 (c .before .before .before .if5 .left)) ∙ pick-no _ _ (ne-eqb (c .before .before .before .before .before .before .before .before .before .args .kind) 6 (c .before .before .if6 .left)))
+returns-7 c =
+    let a = c .before .before .before .before .before .before .before .before .before .args in
+    ap₂ TakeOctets (c .before .octet-at2 .ensures) (c .word-at4 .ensures) ∙ sym (pick-no _ _ (ne-eqb (a .kind) 1 (c .before .before .before .before .before .before .before .if1 .left)) ∙ pick-no _ _ (ne-eqb (a .kind) 2 (c .before .before .before .before .before .before .if2 .left)) ∙ pick-no _ _ (ne-eqb (a .kind) 3 (c .before .before .before .before .before .if3 .left)) ∙ pick-no _ _ (ne-eqb (a .kind) 4 (c .before .before .before .before .if4 .left)) ∙ pick-no _ _ (ne-eqb (a .kind) 5 (c .before .before .before .if5 .left)) ∙ pick-no _ _ (ne-eqb (a .kind) 6 (c .before .before .if6 .left)))
 
 pub body-spec : {M : Type 1} → statement M
 body-spec =

@@ -32,7 +32,9 @@ returns : tie.Need-returns
 returns c = search needs
 
 returns-2 : tie.Need-returns-2
-returns-2 c = omega (arith, List·getD-eq-default (now (c .before .before .args .octets)) 0 {n = c .before .before .args .place} (omega arith), List·getD-eq-default (now (c .before .before .args .octets)) 0 {n = c .before .before .args .place + 1} (omega arith))
+returns-2 c =
+    let a = c .before .before .args in
+    omega (arith, List·getD-eq-default (now (a .octets)) 0 {n = a .place} (omega arith), List·getD-eq-default (now (a .octets)) 0 {n = a .place + 1} (omega arith))
 
 pub word-at-spec : {M : Type 1} → statement M
 word-at-spec =

@@ -26,18 +26,19 @@ empty-bench-requires : tie.Need-empty-bench-requires Inv-loop μ-loop
 empty-bench-requires c κs = search needs
 
 loop-holds : tie.Need-loop-holds Inv-loop μ-loop
-loop-holds c = (
-  omega arith,
-  record {
-    data-ends = refl;
-    data-kinds = refl;
-    pfc-ends = refl;
-    pfc-octets = refl;
-    data-count = omega (arith, ap (λ (b : Bench). b .«data_count») (c .empty-bench .ensures));
-    pfc-count = omega (arith, ap (λ (b : Bench). b .«pfc_count») (c .empty-bench .ensures));
-  },
-  starts (c .before .before .args .watch) (c .before .before .pre) (now (c .before .before .args .octets)) _ _ _ _ _ (c .empty-bench .ensures),
-)
+loop-holds c =
+    let a = c .before .before .args in (
+      omega arith,
+      record {
+        data-ends = refl;
+        data-kinds = refl;
+        pfc-ends = refl;
+        pfc-octets = refl;
+        data-count = omega (arith, ap (λ (b : Bench). b .«data_count») (c .empty-bench .ensures));
+        pfc-count = omega (arith, ap (λ (b : Bench). b .«pfc_count») (c .empty-bench .ensures));
+      },
+      starts (a .watch) (c .before .before .pre) (now (a .octets)) _ _ _ _ _ (c .empty-bench .ensures),
+    )
 
 slice-aggregate-step-lent : tie.Need-slice-aggregate-step-lent Inv-loop μ-loop
 slice-aggregate-step-lent c = search needs
@@ -80,7 +81,11 @@ report-of-requires c κs = search needs
 
 returns : tie.Need-returns Inv-loop μ-loop
 returns c =
-    stopped (c .before .before .before .before .before .before .before .before .before .before .before .before .before .before .before .before .before .before .args .watch) (c .before .before .before .before .before .before .before .before .before .before .before .before .before .before .before .before .before .before .pre) (now (c .before .before .before .before .before .before .before .before .before .before .before .before .before .before .before .before .before .before .args .octets)) (c .before .before .before .before .before .before .before .before .before .before .before .before .before .before .before .loop .at) (c .before .before .before .before .before .before .before .before .before .before .before .before .before .before .before .loop .steps) (memoryOf (c .before .before .before .before .before .before .before .before .before .before .before .before .before .before .before .loop .bench) (c .before .before .before .before .before .before .before .before .before .before .before .before .before .before .before .loop .ends) (c .before .before .before .before .before .before .before .before .before .before .before .before .before .before .before .loop .kinds) (c .before .before .before .before .before .before .before .before .before .before .before .before .before .before .before .loop .pfc-ends) (c .before .before .before .before .before .before .before .before .before .before .before .before .before .before .before .loop .frames)) (c .before .before .before .before .before .before .before .before .before .before .before .before .before .before .before .loop .inv .1) (c .before .before .before .before .before .before .before .before .before .before .before .before .before .before .before .loop .inv .2) (c .before .before .before .before .before .before .before .before .before .before .before .before .before .before .before .loop .inv .0) _ _ (c .before .before .before .before .before .before .before .before .before .before .before .before .before .before .loop-test .taken) (c .before .before .before .before .before .before .before .before .step-lent .ensures) _
+    let start = c .before .before .before .before .before .before .before .before .before .before .before .before .before .before .before .before .before .before in
+    let a = start .args in
+    let turn = c .before .before .before .before .before .before .before .before .before .before .before .before .before .before .before .loop in
+    let m = memoryOf (turn .bench) (turn .ends) (turn .kinds) (turn .pfc-ends) (turn .frames) in
+    stopped (a .watch) (start .pre) (now (a .octets)) (turn .at) (turn .steps) m (turn .inv .1) (turn .inv .2) (turn .inv .0) _ _ (c .before .before .before .before .before .before .before .before .before .before .before .before .before .before .loop-test .taken) (c .before .before .before .before .before .before .before .before .step-lent .ensures) _
     (refused-nonzero _ _ (sym (c .before .before .before .outcome-of .ensures) ∙ c .before .enum-told2 .given .1))
     (c .report-of .ensures)
 
@@ -94,29 +99,41 @@ body-length-requires : tie.Need-body-length-requires Inv-loop μ-loop
 body-length-requires c κs = search needs
 
 add-at-2 : tie.Need-add-at-2 Inv-loop μ-loop
-add-at-2 c = omega (arith, c .before .before .before .before .before .before .before .before .before .before .before .before .before .before .before .before .loop-test .taken, c .before .before .before .before .before .before .before .before .before .before .before .before .before .before .before .before .before .loop .inv .0, c .before .before .before .before .before .before .before .before .before .before .before .before .before .before .before .before .before .before .before .before .good, c .body-length .ensures)
+add-at-2 c =
+    omega (arith, c .before .before .before .before .before .before .before .before .before .before .before .before .before .before .before .before .loop-test .taken, c .before .before .before .before .before .before .before .before .before .before .before .before .before .before .before .before .before .loop .inv .0, c .before .before .before .before .before .before .before .before .before .before .before .before .before .before .before .before .before .before .before .before .good, c .body-length .ensures)
 
 add-steps : tie.Need-add-steps Inv-loop μ-loop
-add-steps c = omega (arith, c .before .before .before .before .before .before .before .before .before .before .before .before .before .before .before .before .loop-test .taken, c .before .before .before .before .before .before .before .before .before .before .before .before .before .before .before .before .before .loop .inv .0, c .before .before .before .before .before .before .before .before .before .before .before .before .before .before .before .before .before .before .before .before .good, c .body-length .ensures)
+add-steps c =
+    omega (arith, c .before .before .before .before .before .before .before .before .before .before .before .before .before .before .before .before .loop-test .taken, c .before .before .before .before .before .before .before .before .before .before .before .before .before .before .before .before .before .loop .inv .0, c .before .before .before .before .before .before .before .before .before .before .before .before .before .before .before .before .before .before .before .before .good, c .body-length .ensures)
 
 loop-less : tie.Need-loop-less Inv-loop μ-loop
-loop-less c = omega (arith, c .before .before .before .before .before .before .before .before .before .before .before .before .before .before .before .before .loop-test .taken, c .before .before .before .before .before .before .before .before .before .before .before .before .before .before .before .before .before .loop .inv .0, c .before .before .before .before .before .before .before .before .before .before .before .before .before .before .before .before .before .before .before .before .good, c .body-length .ensures)
+loop-less c =
+    omega (arith, c .before .before .before .before .before .before .before .before .before .before .before .before .before .before .before .before .loop-test .taken, c .before .before .before .before .before .before .before .before .before .before .before .before .before .before .before .before .before .loop .inv .0, c .before .before .before .before .before .before .before .before .before .before .before .before .before .before .before .before .before .before .before .before .good, c .body-length .ensures)
 
 loop-again : tie.Need-loop-again Inv-loop μ-loop
-loop-again c = (
-  omega (arith, c .before .before .before .before .before .before .before .before .before .before .before .before .before .before .before .before .before .loop .inv .0),
-  c .before .before .before .before .before .before .before .before .before .before .step-lent .ensures .lent,
-  went-on (c .before .before .before .before .before .before .before .before .before .before .before .before .before .before .before .before .before .before .before .before .args .watch) (c .before .before .before .before .before .before .before .before .before .before .before .before .before .before .before .before .before .before .before .before .pre) (now (c .before .before .before .before .before .before .before .before .before .before .before .before .before .before .before .before .before .before .before .before .args .octets)) (c .before .before .before .before .before .before .before .before .before .before .before .before .before .before .before .before .before .loop .at) (c .before .before .before .before .before .before .before .before .before .before .before .before .before .before .before .before .before .loop .steps) (memoryOf (c .before .before .before .before .before .before .before .before .before .before .before .before .before .before .before .before .before .loop .bench) (c .before .before .before .before .before .before .before .before .before .before .before .before .before .before .before .before .before .loop .ends) (c .before .before .before .before .before .before .before .before .before .before .before .before .before .before .before .before .before .loop .kinds) (c .before .before .before .before .before .before .before .before .before .before .before .before .before .before .before .before .before .loop .pfc-ends) (c .before .before .before .before .before .before .before .before .before .before .before .before .before .before .before .before .before .loop .frames)) (c .before .before .before .before .before .before .before .before .before .before .before .before .before .before .before .before .before .loop .inv .1) (c .before .before .before .before .before .before .before .before .before .before .before .before .before .before .before .before .before .loop .inv .2) (c .before .before .before .before .before .before .before .before .before .before .before .before .before .before .before .before .before .loop .inv .0) _ _ (c .before .before .before .before .before .before .before .before .before .before .before .before .before .before .before .before .loop-test .taken) (c .before .before .before .before .before .before .before .before .before .before .step-lent .ensures) _ _
-      (accepted-zero _ (sym (c .before .before .before .before .before .outcome-of .ensures) ∙ c .before .before .before .enum-told .given .1))
-      (c .before .octet-at .ensures)
-      (c .body-length .ensures .0),
-)
+loop-again c =
+    let start = c .before .before .before .before .before .before .before .before .before .before .before .before .before .before .before .before .before .before .before .before in
+    let a = start .args in
+    let turn = c .before .before .before .before .before .before .before .before .before .before .before .before .before .before .before .before .before .loop in
+    let m = memoryOf (turn .bench) (turn .ends) (turn .kinds) (turn .pfc-ends) (turn .frames) in (
+      omega (arith, turn .inv .0),
+      c .before .before .before .before .before .before .before .before .before .before .step-lent .ensures .lent,
+      went-on (a .watch) (start .pre) (now (a .octets)) (turn .at) (turn .steps) m (turn .inv .1) (turn .inv .2) (turn .inv .0) _ _ (c .before .before .before .before .before .before .before .before .before .before .before .before .before .before .before .before .loop-test .taken) (c .before .before .before .before .before .before .before .before .before .before .step-lent .ensures) _ _
+          (accepted-zero _ (sym (c .before .before .before .before .before .outcome-of .ensures) ∙ c .before .before .before .enum-told .given .1))
+          (c .before .octet-at .ensures)
+          (c .body-length .ensures .0),
+    )
 
 report-of-requires-2 : tie.Need-report-of-requires-2 Inv-loop μ-loop
 report-of-requires-2 c κs = search needs
 
 returns-2 : tie.Need-returns-2 Inv-loop μ-loop
-returns-2 c = ended (c .before .before .before .before .before .args .watch) (c .before .before .before .before .before .pre) (now (c .before .before .before .before .before .args .octets)) (c .before .before .loop .at) (c .before .before .loop .steps) (memoryOf (c .before .before .loop .bench) (c .before .before .loop .ends) (c .before .before .loop .kinds) (c .before .before .loop .pfc-ends) (c .before .before .loop .frames)) (c .before .before .loop .inv .1) (c .before .before .loop .inv .2) (c .before .before .loop .inv .0) _ (c .before .loop-test .left) (c .report-of2 .ensures)
+returns-2 c =
+    let start = c .before .before .before .before .before in
+    let a = start .args in
+    let turn = c .before .before .loop in
+    let m = memoryOf (turn .bench) (turn .ends) (turn .kinds) (turn .pfc-ends) (turn .frames) in
+    ended (a .watch) (start .pre) (now (a .octets)) (turn .at) (turn .steps) m (turn .inv .1) (turn .inv .2) (turn .inv .0) _ (c .before .loop-test .left) (c .report-of2 .ensures)
 
 pub follow-spec : {M : Type 1} → statement M
 follow-spec =

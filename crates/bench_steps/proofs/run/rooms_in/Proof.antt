@@ -32,7 +32,9 @@ long-at-requires-8 : tie.Need-long-at-requires-8
 long-at-requires-8 c κs = search needs
 
 returns : tie.Need-returns
-returns c = eight-is (λ (n : ℕ). longAt (now (c .before .before .before .before .before .before .before .before .before .args .octets)) (26 + 4 * n)) (c .before .before .before .before .before .before .before .long-at .ensures) (c .before .before .before .before .before .before .long-at2 .ensures) (c .before .before .before .before .before .long-at3 .ensures) (c .before .before .before .before .long-at4 .ensures) (c .before .before .before .long-at5 .ensures) (c .before .before .long-at6 .ensures) (c .before .long-at7 .ensures) (c .long-at8 .ensures)
+returns c =
+    let a = c .before .before .before .before .before .before .before .before .before .args in
+    eight-is (λ (n : ℕ). longAt (now (a .octets)) (26 + 4 * n)) (c .before .before .before .before .before .before .before .long-at .ensures) (c .before .before .before .before .before .before .long-at2 .ensures) (c .before .before .before .before .before .long-at3 .ensures) (c .before .before .before .before .long-at4 .ensures) (c .before .before .before .long-at5 .ensures) (c .before .before .long-at6 .ensures) (c .before .long-at7 .ensures) (c .long-at8 .ensures)
 
 pub rooms-in-spec : {M : Type 1} → statement M
 rooms-in-spec =

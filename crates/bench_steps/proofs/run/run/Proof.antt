@@ -30,14 +30,18 @@ refused-report-requires-2 c κs = search needs
 
 returns-2 : tie.Need-returns-2
 unfolding runOf
-returns-2 c = c .refused-report2 .ensures ∙ ap refusedReport (c .before .before .first-refusal .ensures ∙ ap (λ (k : ℕ). firstRefusal k (length (now (c .before .before .before .before .before .before .args .input)))) (c .before .before .before .octet-at .ensures)) ∙ sym (pick-no _ _ (le-ltb _ _ (c .before .before .before .before .if1 .left)) ∙ pick-no _ _ (ap (λ (k : ℕ). eqb k 0) (sym (c .before .before .first-refusal .ensures ∙ ap (λ (k : ℕ). firstRefusal k (length (now (c .before .before .before .before .before .before .args .input)))) (c .before .before .before .octet-at .ensures))) ∙ ne-eqb (c .before .before .first-refusal .result) 0 (c .before .if2 .taken)))
+returns-2 c =
+    let a = c .before .before .before .before .before .before .args in
+    c .refused-report2 .ensures ∙ ap refusedReport (c .before .before .first-refusal .ensures ∙ ap (λ (k : ℕ). firstRefusal k (length (now (a .input)))) (c .before .before .before .octet-at .ensures)) ∙ sym (pick-no _ _ (le-ltb _ _ (c .before .before .before .before .if1 .left)) ∙ pick-no _ _ (ap (λ (k : ℕ). eqb k 0) (sym (c .before .before .first-refusal .ensures ∙ ap (λ (k : ℕ). firstRefusal k (length (now (a .input)))) (c .before .before .before .octet-at .ensures))) ∙ ne-eqb (c .before .before .first-refusal .result) 0 (c .before .if2 .taken)))
 
 settled-requires : tie.Need-settled-requires
 settled-requires c κs = whole-settings _ _ (sym (c .before .first-refusal .ensures) ∙ c .if2 .left)
 
 returns-3 : tie.Need-returns-3
 unfolding runOf
-returns-3 c = c .settled .ensures ∙ sym (pick-no _ _ (le-ltb _ _ (c .before .before .before .before .if1 .left)) ∙ pick-yes _ _ (ap (λ (k : ℕ). eqb k 0) (sym (c .before .before .first-refusal .ensures ∙ ap (λ (k : ℕ). firstRefusal k (length (now (c .before .before .before .before .before .before .args .input)))) (c .before .before .before .octet-at .ensures))) ∙ eq-eqb (c .before .before .first-refusal .result) 0 (c .before .if2 .left)))
+returns-3 c =
+    let a = c .before .before .before .before .before .before .args in
+    c .settled .ensures ∙ sym (pick-no _ _ (le-ltb _ _ (c .before .before .before .before .if1 .left)) ∙ pick-yes _ _ (ap (λ (k : ℕ). eqb k 0) (sym (c .before .before .first-refusal .ensures ∙ ap (λ (k : ℕ). firstRefusal k (length (now (a .input)))) (c .before .before .before .octet-at .ensures))) ∙ eq-eqb (c .before .before .first-refusal .result) 0 (c .before .if2 .left)))
 
 pub run-spec : {M : Type 1} → statement M
 run-spec =

@@ -40,14 +40,17 @@ follow-requires : tie.Need-follow-requires
 follow-requires c κs = accepted-small (c .before .before .before .before .before .settings-in .result) _ (sym (c .before .before .before .before .settle .ensures) ∙ c .before .before .settling2 .given .1)
 
 returns : tie.Need-returns
-returns c = c .refused-report .ensures ∙ settled-refused (now (c .before .before .before .before .before .before .before .args .input)) _ (ap settling (sym (c .before .before .before .before .before .settings-in .ensures)) ∙ sym (c .before .before .before .before .settle .ensures) ∙ c .before .before .settling .given .1)
+returns c =
+    let a = c .before .before .before .before .before .before .before .args in
+    c .refused-report .ensures ∙ settled-refused (now (a .input)) _ (ap settling (sym (c .before .before .before .before .before .settings-in .ensures)) ∙ sym (c .before .before .before .before .settle .ensures) ∙ c .before .before .settling .given .1)
 
 returns-2 : tie.Need-returns-2
 returns-2 c =
+    let a = c .before .before .before .before .before .before .before .before .args in
     c .follow .ensures ∙
-    ap (λ (s : Settings). followOf (watchWith s (c .before .before .before .settling2 .given .0 .0)) (take (length (now (c .before .before .before .before .before .before .before .before .args .input)) - 58) (drop 58 (now (c .before .before .before .before .before .before .before .before .args .input))))) (c .before .before .before .before .before .before .settings-in .ensures) ∙
-    ap (followOf (watchWith (settingsIn (now (c .before .before .before .before .before .before .before .before .args .input))) (c .before .before .before .settling2 .given .0 .0))) (take-rest 58 (now (c .before .before .before .before .before .before .before .before .args .input))) ∙
-    settled-accepted (now (c .before .before .before .before .before .before .before .before .args .input)) _ (ap settling (sym (c .before .before .before .before .before .before .settings-in .ensures)) ∙ sym (c .before .before .before .before .before .settle .ensures) ∙ c .before .before .before .settling2 .given .1)
+    ap (λ (s : Settings). followOf (watchWith s (c .before .before .before .settling2 .given .0 .0)) (take (length (now (a .input)) - 58) (drop 58 (now (a .input))))) (c .before .before .before .before .before .before .settings-in .ensures) ∙
+    ap (followOf (watchWith (settingsIn (now (a .input))) (c .before .before .before .settling2 .given .0 .0))) (take-rest 58 (now (a .input))) ∙
+    settled-accepted (now (a .input)) _ (ap settling (sym (c .before .before .before .before .before .before .settings-in .ensures)) ∙ sym (c .before .before .before .before .before .settle .ensures) ∙ c .before .before .before .settling2 .given .1)
 
 pub settled-spec : {M : Type 1} → statement M
 settled-spec =

@@ -16,7 +16,9 @@ returns : tie.Need-returns
 returns c = search needs
 
 returns-2 : tie.Need-returns-2
-returns-2 c = no-priority (c .before .args .watch) (c .before .args .r) (c .before .args .kind / 65536) (c .before .args .kind % 65536) (c .before .args .now) (omega arith)
+returns-2 c =
+    let a = c .before .args in
+    no-priority (a .watch) (a .r) (a .kind / 65536) (a .kind % 65536) (a .now) (omega arith)
 
 pub arrival-spec : {M : Type 1} → statement M
 arrival-spec = tie.close (tie.spec cast-arrived arrived-requires returns returns-2)

@@ -1,6 +1,5 @@
 -- `bench_steps::step::arrive` meets its contract. Assumes nothing.
 use Rattle.bench_steps.proofs.Answered.{told-refused, arrive-number, ended-some, arrive-told}
-use Rattle.bench_steps.proofs.Answered.{told-refused, arrive-number, ended-some, arrive-answers}
 use Rattle.bench_steps.specs.Chains.{noneEnded, oldestOf}
 use Rattle.recorder.specs.declared.watch.Moment.{Moment}
 use Rattle.ground.proofs.Pick.{pick-yes, pick-no}
@@ -30,8 +29,11 @@ same-length c = search needs
 
 returns : tie.Need-returns
 returns c =
-    told-refused (c .before .before .before .before .before .before .before .before .before .args .watch) (memoryOf (c .before .before .before .before .before .before .before .before .before .args .bench) (now (c .before .before .before .before .before .before .before .before .before .args .ends)) (now (c .before .before .before .before .before .before .before .before .before .args .kinds)) (now (c .before .before .before .before .before .before .before .before .before .args .pfc-ends)) (now (c .before .before .before .before .before .before .before .before .before .args .octets))) record'.Arrive 37 _ _ (c .before .before .before .before .before .before .before .before .before .pre)
-    (sym (pick-yes _ _ (ap (λ (e : Moment). noneEnded e (c .before .before .before .before .before .before .before .before .before .args .bench .now)) (sym (c .before .before .before .oldest .ensures)) ∙ sym (c .before .before .none-ended .ensures) ∙ c .before .if1 .taken)) ∙ arrive-number (c .before .before .before .before .before .before .before .before .before .args .watch) (memoryOf (c .before .before .before .before .before .before .before .before .before .args .bench) (now (c .before .before .before .before .before .before .before .before .before .args .ends)) (now (c .before .before .before .before .before .before .before .before .before .args .kinds)) (now (c .before .before .before .before .before .before .before .before .before .args .pfc-ends)) (now (c .before .before .before .before .before .before .before .before .before .args .octets))) (c .before .before .before .before .before .before .before .before .before .pre))
+    let start = c .before .before .before .before .before .before .before .before .before in
+    let a = start .args in
+    let m = memoryOf (a .bench) (now (a .ends)) (now (a .kinds)) (now (a .pfc-ends)) (now (a .octets)) in
+    told-refused (a .watch) m record'.Arrive 37 _ _ (start .pre)
+    (sym (pick-yes _ _ (ap (λ (e : Moment). noneEnded e (a .bench .now)) (sym (c .before .before .before .oldest .ensures)) ∙ sym (c .before .before .none-ended .ensures) ∙ c .before .if1 .taken)) ∙ arrive-number (a .watch) m (start .pre))
     (λ e. omega arith)
     (c .refused .ensures .0)
     (c .refused .ensures .1)
@@ -40,7 +42,9 @@ slice-read-kind : tie.Need-slice-read-kind
 slice-read-kind c = search needs
 
 sub-left : tie.Need-sub-left
-sub-left c = omega (arith, (ended-some (c .before .before .before .before .before .before .before .before .before .before .args .bench .«data_count») (now (c .before .before .before .before .before .before .before .before .before .before .args .ends)) (c .before .before .before .before .before .before .before .before .before .before .args .bench .now) (ap (λ (e : Moment). noneEnded e (c .before .before .before .before .before .before .before .before .before .before .args .bench .now)) (sym (c .before .before .before .before .oldest .ensures)) ∙ sym (c .before .before .before .none-ended .ensures) ∙ c .before .before .if1 .left)))
+sub-left c =
+    let a = c .before .before .before .before .before .before .before .before .before .before .args in
+    omega (arith, (ended-some (a .bench .«data_count») (now (a .ends)) (a .bench .now) (ap (λ (e : Moment). noneEnded e (a .bench .now)) (sym (c .before .before .before .before .oldest .ensures)) ∙ sym (c .before .before .before .none-ended .ensures) ∙ c .before .before .if1 .left)))
 
 shift-requires : tie.Need-shift-requires
 shift-requires c κs = search needs
@@ -62,15 +66,17 @@ same-length-3 c = search needs
 
 returns-2 : tie.Need-returns-2
 returns-2 c =
-    let a = c .before .before .before .before .before .before .before .before .before .before .before .before .before .before .before .before .before .before .before .before .before .args in
-    let some : 1 ≤ a .bench .«data_count» = (ended-some (c .before .before .before .before .before .before .before .before .before .before .before .before .before .before .before .before .before .before .before .before .before .args .bench .«data_count») (now (c .before .before .before .before .before .before .before .before .before .before .before .before .before .before .before .before .before .before .before .before .before .args .ends)) (c .before .before .before .before .before .before .before .before .before .before .before .before .before .before .before .before .before .before .before .before .before .args .bench .now) (ap (λ (e : Moment). noneEnded e (c .before .before .before .before .before .before .before .before .before .before .before .before .before .before .before .before .before .before .before .before .before .args .bench .now)) (sym (c .before .before .before .before .before .before .before .before .before .before .before .before .before .before .before .oldest .ensures)) ∙ sym (c .before .before .before .before .before .before .before .before .before .before .before .before .before .before .none-ended .ensures) ∙ c .before .before .before .before .before .before .before .before .before .before .before .before .before .if1 .left)) in
+    let start = c .before .before .before .before .before .before .before .before .before .before .before .before .before .before .before .before .before .before .before .before .before in
+    let a = start .args in
+    let m = memoryOf (a .bench) (now (a .ends)) (now (a .kinds)) (now (a .pfc-ends)) (now (a .octets)) in
+    let some : 1 ≤ a .bench .«data_count» = (ended-some (a .bench .«data_count») (now (a .ends)) (a .bench .now) (ap (λ (e : Moment). noneEnded e (a .bench .now)) (sym (c .before .before .before .before .before .before .before .before .before .before .before .before .before .before .before .oldest .ensures)) ∙ sym (c .before .before .before .before .before .before .before .before .before .before .before .before .before .before .none-ended .ensures) ∙ c .before .before .before .before .before .before .before .before .before .before .before .before .before .if1 .left)) in
     let counted : a .bench .«data_count» ≡ a .bench .«data_count» - 1 + 1 = omega arith in
-    arrive-told (c .before .before .before .before .before .before .before .before .before .before .before .before .before .before .before .before .before .before .before .before .before .args .watch) (memoryOf (c .before .before .before .before .before .before .before .before .before .before .before .before .before .before .before .before .before .before .before .before .before .args .bench) (now (c .before .before .before .before .before .before .before .before .before .before .before .before .before .before .before .before .before .before .before .before .before .args .ends)) (now (c .before .before .before .before .before .before .before .before .before .before .before .before .before .before .before .before .before .before .before .before .before .args .kinds)) (now (c .before .before .before .before .before .before .before .before .before .before .before .before .before .before .before .before .before .before .before .before .before .args .pfc-ends)) (now (c .before .before .before .before .before .before .before .before .before .before .before .before .before .before .before .before .before .before .before .before .before .args .octets))) (c .before .before .before .before .before .before .before .before .before .before .before .before .before .before .before .before .before .before .before .before .before .pre) _ _ _ _ _ _
+    arrive-told (a .watch) m (start .pre) _ _ _ _ _ _
     (c .before .before .before .before .before .before .before .before .before .shift .ensures)
     (c .before .before .before .before .before .shift2 .ensures)
     (c .before .arrival .ensures)
     counted
-    (sym (pick-no _ _ (ap (λ (e : Moment). noneEnded e (c .before .before .before .before .before .before .before .before .before .before .before .before .before .before .before .before .before .before .before .before .before .args .bench .now)) (sym (c .before .before .before .before .before .before .before .before .before .before .before .before .before .before .before .oldest .ensures)) ∙ sym (c .before .before .before .before .before .before .before .before .before .before .before .before .before .before .none-ended .ensures) ∙ c .before .before .before .before .before .before .before .before .before .before .before .before .before .if1 .left)) ∙ arrive-number (c .before .before .before .before .before .before .before .before .before .before .before .before .before .before .before .before .before .before .before .before .before .args .watch) (memoryOf (c .before .before .before .before .before .before .before .before .before .before .before .before .before .before .before .before .before .before .before .before .before .args .bench) (now (c .before .before .before .before .before .before .before .before .before .before .before .before .before .before .before .before .before .before .before .before .before .args .ends)) (now (c .before .before .before .before .before .before .before .before .before .before .before .before .before .before .before .before .before .before .before .before .before .args .kinds)) (now (c .before .before .before .before .before .before .before .before .before .before .before .before .before .before .before .before .before .before .before .before .before .args .pfc-ends)) (now (c .before .before .before .before .before .before .before .before .before .before .before .before .before .before .before .before .before .before .before .before .before .args .octets))) (c .before .before .before .before .before .before .before .before .before .before .before .before .before .before .before .before .before .before .before .before .before .pre))
+    (sym (pick-no _ _ (ap (λ (e : Moment). noneEnded e (a .bench .now)) (sym (c .before .before .before .before .before .before .before .before .before .before .before .before .before .before .before .oldest .ensures)) ∙ sym (c .before .before .before .before .before .before .before .before .before .before .before .before .before .before .none-ended .ensures) ∙ c .before .before .before .before .before .before .before .before .before .before .before .before .before .if1 .left)) ∙ arrive-number (a .watch) m (start .pre))
     (c .refused2 .ensures .0)
     (c .refused2 .ensures .1)
 

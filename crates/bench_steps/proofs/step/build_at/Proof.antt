@@ -21,7 +21,9 @@ same-length : tie.Need-same-length
 same-length c = search needs
 
 returns : tie.Need-returns
-returns c = built-at (c .before .before .before .before .before .args .place) (c .before .before .before .before .before .args .enabled) (c .before .before .before .before .before .args .times) (now (c .before .before .before .before .before .args .octets)) _ (c .before .before .before .before .before .pre) (c .before .before .build .ensures .1)
+returns c =
+    let a = c .before .before .before .before .before .args in
+    built-at (a .place) (a .enabled) (a .times) (now (a .octets)) _ (c .before .before .before .before .before .pre) (c .before .before .build .ensures .1)
 
 pub build-at-spec : {M : Type 1} → statement M
 build-at-spec =

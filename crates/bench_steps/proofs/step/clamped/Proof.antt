@@ -11,12 +11,13 @@ at-most-128-requires-2 c κs = search needs
 
 returns : tie.Need-returns
 returns c =
+    let a = c .before .before .args in
     λ i. record {
-      now = c .before .before .args .bench .now;
-      head = c .before .before .args .bench .head;
-      recorder = c .before .before .args .bench .recorder;
-      «a_free» = c .before .before .args .bench .«a_free»;
-      «b_free» = c .before .before .args .bench .«b_free»;
+      now = a .bench .now;
+      head = a .bench .head;
+      recorder = a .bench .recorder;
+      «a_free» = a .bench .«a_free»;
+      «b_free» = a .bench .«b_free»;
       «data_count» = c .before .at-most-128 .ensures i;
       «pfc_count» = c .at-most-1282 .ensures i;
     }

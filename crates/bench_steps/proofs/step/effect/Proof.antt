@@ -34,7 +34,9 @@ returns-2 c = sym (ap (λ (v : Verdict). effectOf v (c .before .before .args .he
 
 returns-3 : tie.Need-returns-3
 unfolding effectOf
-returns-3 c = c .taken .ensures ∙ ap (afterRequest (c .before .before .before .before .before .args .head) (c .before .before .before .found .given .0 .0 .e)) (c .before .times-of .ensures) ∙ sym (ap (λ (v : Verdict). effectOf v (c .before .before .before .before .before .args .head)) (c .before .before .before .found .given .1))
+returns-3 c =
+    let a = c .before .before .before .before .before .args in
+    c .taken .ensures ∙ ap (afterRequest (a .head) (c .before .before .before .found .given .0 .0 .e)) (c .before .times-of .ensures) ∙ sym (ap (λ (v : Verdict). effectOf v (a .head)) (c .before .before .before .found .given .1))
 
 pub effect-spec : {M : Type 1} → statement M
 effect-spec =

@@ -17,13 +17,19 @@ enum-known-moment c = search needs
 
 returns : tie.Need-returns
 unfolding pastDue
-returns c = sym (ap (λ (m : Moment). pastDue m (c .before .before .args .bound) (c .before .before .args .now)) (c .enum-told .given .1))
+returns c =
+    let a = c .before .before .args in
+    sym (ap (λ (m : Moment). pastDue m (a .bound) (a .now)) (c .enum-told .given .1))
 
 returns-2 : tie.Need-returns-2
-returns-2 c = past-since _ _ _ (c .if1 .taken) ∙ sym (ap (λ (m : Moment). pastDue m (c .before .before .before .before .args .bound) (c .before .before .before .before .args .now)) (c .before .before .moment .given .1))
+returns-2 c =
+    let a = c .before .before .before .before .args in
+    past-since _ _ _ (c .if1 .taken) ∙ sym (ap (λ (m : Moment). pastDue m (a .bound) (a .now)) (c .before .before .moment .given .1))
 
 returns-3 : tie.Need-returns-3
-returns-3 c = past-not-yet _ _ _ (c .if1 .left) ∙ sym (ap (λ (m : Moment). pastDue m (c .before .before .before .before .args .bound) (c .before .before .before .before .args .now)) (c .before .before .moment .given .1))
+returns-3 c =
+    let a = c .before .before .before .before .args in
+    past-not-yet _ _ _ (c .if1 .left) ∙ sym (ap (λ (m : Moment). pastDue m (a .bound) (a .now)) (c .before .before .moment .given .1))
 
 pub past-spec : {M : Type 1} → statement M
 past-spec = tie.close (tie.spec enum-told enum-known-moment returns returns-2 returns-3)

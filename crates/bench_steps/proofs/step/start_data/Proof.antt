@@ -36,11 +36,13 @@ refused-requires c κs = search needs
 
 returns : tie.Need-returns
 returns c =
-    told-refused (c .before .before .before .before .before .before .before .before .before .before .args .watch) (memoryOf (c .before .before .before .before .before .before .before .before .before .before .args .bench) (now (c .before .before .before .before .before .before .before .before .before .before .args .ends)) (now (c .before .before .before .before .before .before .before .before .before .before .args .kinds)) (now (c .before .before .before .before .before .before .before .before .before .before .args .pfc-ends)) (now (c .before .before .before .before .before .before .before .before .before .before .args .octets))) (record'.StartData (c .before .before .before .before .before .before .before .before .before .before .args .priority) (c .before .before .before .before .before .before .before .before .before .before .args .length)) (c .before .before .start-data-number .result) _ _ (c .before .before .before .before .before .before .before .before .before .before .pre)
+    let a = c .before .before .before .before .before .before .before .before .before .before .args in
+    let m = memoryOf (a .bench) (now (a .ends)) (now (a .kinds)) (now (a .pfc-ends)) (now (a .octets)) in
+    told-refused (a .watch) m (record'.StartData (a .priority) (a .length)) (c .before .before .start-data-number .result) _ _ (c .before .before .before .before .before .before .before .before .before .before .pre)
     (c .before .before .start-data-number .ensures ∙
-    ap (λ (b : Bool). startDataNumber (c .before .before .before .before .before .before .before .before .before .before .args .priority) b (c .before .before .before .before .before .before .before .before .before .before .args .bench .now) (c .before .before .before .before .before .before .before .before .before .before .args .bench .«a_free») (c .before .before .before .is-paused .result) (c .before .before .before .before .before .before .before .before .before .before .args .bench .«data_count»)) (c .before .before .before .before .length-refused .ensures) ∙
-    ap (λ (b : Bool). startDataNumber (c .before .before .before .before .before .before .before .before .before .before .args .priority) (lengthRefused (c .before .before .before .before .before .before .before .before .before .before .args .watch .settings .largest) (c .before .before .before .before .before .before .before .before .before .before .args .length)) (c .before .before .before .before .before .before .before .before .before .before .args .bench .now) (c .before .before .before .before .before .before .before .before .before .before .args .bench .«a_free») b (c .before .before .before .before .before .before .before .before .before .before .args .bench .«data_count»)) (c .before .before .before .is-paused .ensures) ∙
-    start-data-number (c .before .before .before .before .before .before .before .before .before .before .args .watch) (memoryOf (c .before .before .before .before .before .before .before .before .before .before .args .bench) (now (c .before .before .before .before .before .before .before .before .before .before .args .ends)) (now (c .before .before .before .before .before .before .before .before .before .before .args .kinds)) (now (c .before .before .before .before .before .before .before .before .before .before .args .pfc-ends)) (now (c .before .before .before .before .before .before .before .before .before .before .args .octets))) (c .before .before .before .before .before .before .before .before .before .before .pre) (c .before .before .before .before .before .before .before .before .before .before .args .priority) (c .before .before .before .before .before .before .before .before .before .before .args .length))
+    ap (λ (b : Bool). startDataNumber (a .priority) b (a .bench .now) (a .bench .«a_free») (c .before .before .before .is-paused .result) (a .bench .«data_count»)) (c .before .before .before .before .length-refused .ensures) ∙
+    ap (λ (b : Bool). startDataNumber (a .priority) (lengthRefused (a .watch .settings .largest) (a .length)) (a .bench .now) (a .bench .«a_free») b (a .bench .«data_count»)) (c .before .before .before .is-paused .ensures) ∙
+    start-data-number (a .watch) m (c .before .before .before .before .before .before .before .before .before .before .pre) (a .priority) (a .length))
     (c .before .if1 .taken)
     (c .refused .ensures .0)
     (c .refused .ensures .1)
@@ -83,13 +85,16 @@ same-length-2 c = search needs
 
 returns-2 : tie.Need-returns-2
 returns-2 c =
-    start-data-answers (c .before .before .before .before .before .before .before .before .before .before .before .before .args .watch) (memoryOf (c .before .before .before .before .before .before .before .before .before .before .before .before .args .bench) (now (c .before .before .before .before .before .before .before .before .before .before .before .before .args .ends)) (now (c .before .before .before .before .before .before .before .before .before .before .before .before .args .kinds)) (now (c .before .before .before .before .before .before .before .before .before .before .before .before .args .pfc-ends)) (now (c .before .before .before .before .before .before .before .before .before .before .before .before .args .octets))) (c .before .before .before .before .before .before .before .before .before .before .before .before .pre) (c .before .before .before .before .before .before .before .before .before .before .before .before .args .priority) (c .before .before .before .before .before .before .before .before .before .before .before .before .args .length) _ _ _
+    let start = c .before .before .before .before .before .before .before .before .before .before .before .before in
+    let a = start .args in
+    let m = memoryOf (a .bench) (now (a .ends)) (now (a .kinds)) (now (a .pfc-ends)) (now (a .octets)) in
+    start-data-answers (a .watch) m (start .pre) (a .priority) (a .length) _ _ _
     (c .before .before .sum .ensures)
     (start-data-room _ _ _ _ _ _ (sym (c .before .before .before .before .start-data-number .ensures) ∙ c .before .before .before .if1 .left))
     (sym (c .before .before .before .if1 .left) ∙ (c .before .before .before .before .start-data-number .ensures ∙
-    ap (λ (b : Bool). startDataNumber (c .before .before .before .before .before .before .before .before .before .before .before .before .args .priority) b (c .before .before .before .before .before .before .before .before .before .before .before .before .args .bench .now) (c .before .before .before .before .before .before .before .before .before .before .before .before .args .bench .«a_free») (c .before .before .before .before .before .is-paused .result) (c .before .before .before .before .before .before .before .before .before .before .before .before .args .bench .«data_count»)) (c .before .before .before .before .before .before .length-refused .ensures) ∙
-    ap (λ (b : Bool). startDataNumber (c .before .before .before .before .before .before .before .before .before .before .before .before .args .priority) (lengthRefused (c .before .before .before .before .before .before .before .before .before .before .before .before .args .watch .settings .largest) (c .before .before .before .before .before .before .before .before .before .before .before .before .args .length)) (c .before .before .before .before .before .before .before .before .before .before .before .before .args .bench .now) (c .before .before .before .before .before .before .before .before .before .before .before .before .args .bench .«a_free») b (c .before .before .before .before .before .before .before .before .before .before .before .before .args .bench .«data_count»)) (c .before .before .before .before .before .is-paused .ensures) ∙
-    start-data-number (c .before .before .before .before .before .before .before .before .before .before .before .before .args .watch) (memoryOf (c .before .before .before .before .before .before .before .before .before .before .before .before .args .bench) (now (c .before .before .before .before .before .before .before .before .before .before .before .before .args .ends)) (now (c .before .before .before .before .before .before .before .before .before .before .before .before .args .kinds)) (now (c .before .before .before .before .before .before .before .before .before .before .before .before .args .pfc-ends)) (now (c .before .before .before .before .before .before .before .before .before .before .before .before .args .octets))) (c .before .before .before .before .before .before .before .before .before .before .before .before .pre) (c .before .before .before .before .before .before .before .before .before .before .before .before .args .priority) (c .before .before .before .before .before .before .before .before .before .before .before .before .args .length)))
+    ap (λ (b : Bool). startDataNumber (a .priority) b (a .bench .now) (a .bench .«a_free») (c .before .before .before .before .before .is-paused .result) (a .bench .«data_count»)) (c .before .before .before .before .before .before .length-refused .ensures) ∙
+    ap (λ (b : Bool). startDataNumber (a .priority) (lengthRefused (a .watch .settings .largest) (a .length)) (a .bench .now) (a .bench .«a_free») b (a .bench .«data_count»)) (c .before .before .before .before .before .is-paused .ensures) ∙
+    start-data-number (a .watch) m (start .pre) (a .priority) (a .length)))
     (c .refused2 .ensures .0)
     (c .refused2 .ensures .1)
 

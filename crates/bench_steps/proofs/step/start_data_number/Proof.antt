@@ -24,11 +24,13 @@ returns-4 c = sym (pick-no _ _ (le-ltb _ _ (c .before .before .before .if1 .left
 
 returns-5 : tie.Need-returns-5
 unfolding startDataNumber
-returns-5 c = sym (pick-no _ _ (le-ltb _ _ (c .before .before .before .before .if1 .left)) ∙ pick-no _ _ (c .before .before .before .if2 .left) ∙ pick-no _ _ (le-ltb _ _ (c .before .before .if3 .left)) ∙ pick-no _ _ (c .before .if4 .left) ∙ pick-yes _ _ (le-leb _ _ (c .if5 .taken)))
+returns-5 c =
+    sym (pick-no _ _ (le-ltb _ _ (c .before .before .before .before .if1 .left)) ∙ pick-no _ _ (c .before .before .before .if2 .left) ∙ pick-no _ _ (le-ltb _ _ (c .before .before .if3 .left)) ∙ pick-no _ _ (c .before .if4 .left) ∙ pick-yes _ _ (le-leb _ _ (c .if5 .taken)))
 
 returns-6 : tie.Need-returns-6
 unfolding startDataNumber
-returns-6 c = sym (pick-no _ _ (le-ltb _ _ (c .before .before .before .before .if1 .left)) ∙ pick-no _ _ (c .before .before .before .if2 .left) ∙ pick-no _ _ (le-ltb _ _ (c .before .before .if3 .left)) ∙ pick-no _ _ (c .before .if4 .left) ∙ pick-no _ _ (lt-leb _ _ (c .if5 .left)))
+returns-6 c =
+    sym (pick-no _ _ (le-ltb _ _ (c .before .before .before .before .if1 .left)) ∙ pick-no _ _ (c .before .before .before .if2 .left) ∙ pick-no _ _ (le-ltb _ _ (c .before .before .if3 .left)) ∙ pick-no _ _ (c .before .if4 .left) ∙ pick-no _ _ (lt-leb _ _ (c .if5 .left)))
 
 pub start-data-number-spec : {M : Type 1} → statement M
 start-data-number-spec =

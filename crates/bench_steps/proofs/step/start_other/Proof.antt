@@ -27,11 +27,13 @@ refused-requires c κs = search needs
 
 returns : tie.Need-returns
 returns c =
-    told-refused (c .before .before .before .before .before .before .before .before .before .before .args .watch) (memoryOf (c .before .before .before .before .before .before .before .before .before .before .args .bench) (now (c .before .before .before .before .before .before .before .before .before .before .args .ends)) (now (c .before .before .before .before .before .before .before .before .before .before .args .kinds)) (now (c .before .before .before .before .before .before .before .before .before .before .args .pfc-ends)) (now (c .before .before .before .before .before .before .before .before .before .before .args .octets))) (record'.StartOther (c .before .before .before .before .before .before .before .before .before .before .args .length)) (c .before .before .start-other-number .result) _ _ (c .before .before .before .before .before .before .before .before .before .before .pre)
+    let a = c .before .before .before .before .before .before .before .before .before .before .args in
+    let m = memoryOf (a .bench) (now (a .ends)) (now (a .kinds)) (now (a .pfc-ends)) (now (a .octets)) in
+    told-refused (a .watch) m (record'.StartOther (a .length)) (c .before .before .start-other-number .result) _ _ (c .before .before .before .before .before .before .before .before .before .before .pre)
     (c .before .before .start-other-number .ensures ∙
-    ap (λ (b : Bool). startOtherNumber b (c .before .before .before .before .before .before .before .before .before .before .args .bench .now) (c .before .before .before .before .before .before .before .before .before .before .args .bench .«b_free») (c .before .before .before .past .result)) (c .before .before .before .before .length-refused .ensures) ∙
-    ap (startOtherNumber (lengthRefused (c .before .before .before .before .before .before .before .before .before .before .args .watch .settings .largest) (c .before .before .before .before .before .before .before .before .before .before .args .length)) (c .before .before .before .before .before .before .before .before .before .before .args .bench .now) (c .before .before .before .before .before .before .before .before .before .before .args .bench .«b_free»)) (c .before .before .before .past .ensures) ∙
-    start-other-number (c .before .before .before .before .before .before .before .before .before .before .args .watch) (memoryOf (c .before .before .before .before .before .before .before .before .before .before .args .bench) (now (c .before .before .before .before .before .before .before .before .before .before .args .ends)) (now (c .before .before .before .before .before .before .before .before .before .before .args .kinds)) (now (c .before .before .before .before .before .before .before .before .before .before .args .pfc-ends)) (now (c .before .before .before .before .before .before .before .before .before .before .args .octets))) (c .before .before .before .before .before .before .before .before .before .before .pre) (c .before .before .before .before .before .before .before .before .before .before .args .length))
+    ap (λ (b : Bool). startOtherNumber b (a .bench .now) (a .bench .«b_free») (c .before .before .before .past .result)) (c .before .before .before .before .length-refused .ensures) ∙
+    ap (startOtherNumber (lengthRefused (a .watch .settings .largest) (a .length)) (a .bench .now) (a .bench .«b_free»)) (c .before .before .before .past .ensures) ∙
+    start-other-number (a .watch) m (c .before .before .before .before .before .before .before .before .before .before .pre) (a .length))
     (c .before .if1 .taken)
     (c .refused .ensures .0)
     (c .refused .ensures .1)
@@ -47,12 +49,14 @@ refused-requires-2 c κs = search needs
 
 returns-2 : tie.Need-returns-2
 returns-2 c =
-    start-other-answers (c .before .before .before .before .before .before .before .before .before .before .before .args .watch) (memoryOf (c .before .before .before .before .before .before .before .before .before .before .before .args .bench) (now (c .before .before .before .before .before .before .before .before .before .before .before .args .ends)) (now (c .before .before .before .before .before .before .before .before .before .before .before .args .kinds)) (now (c .before .before .before .before .before .before .before .before .before .before .before .args .pfc-ends)) (now (c .before .before .before .before .before .before .before .before .before .before .before .args .octets))) (c .before .before .before .before .before .before .before .before .before .before .before .pre) (c .before .before .before .before .before .before .before .before .before .before .before .args .length) _ _ _
+    let a = c .before .before .before .before .before .before .before .before .before .before .before .args in
+    let m = memoryOf (a .bench) (now (a .ends)) (now (a .kinds)) (now (a .pfc-ends)) (now (a .octets)) in
+    start-other-answers (a .watch) m (c .before .before .before .before .before .before .before .before .before .before .before .pre) (a .length) _ _ _
     (c .before .sum .ensures)
     (sym (c .before .before .if1 .left) ∙ (c .before .before .before .start-other-number .ensures ∙
-    ap (λ (b : Bool). startOtherNumber b (c .before .before .before .before .before .before .before .before .before .before .before .args .bench .now) (c .before .before .before .before .before .before .before .before .before .before .before .args .bench .«b_free») (c .before .before .before .before .past .result)) (c .before .before .before .before .before .length-refused .ensures) ∙
-    ap (startOtherNumber (lengthRefused (c .before .before .before .before .before .before .before .before .before .before .before .args .watch .settings .largest) (c .before .before .before .before .before .before .before .before .before .before .before .args .length)) (c .before .before .before .before .before .before .before .before .before .before .before .args .bench .now) (c .before .before .before .before .before .before .before .before .before .before .before .args .bench .«b_free»)) (c .before .before .before .before .past .ensures) ∙
-    start-other-number (c .before .before .before .before .before .before .before .before .before .before .before .args .watch) (memoryOf (c .before .before .before .before .before .before .before .before .before .before .before .args .bench) (now (c .before .before .before .before .before .before .before .before .before .before .before .args .ends)) (now (c .before .before .before .before .before .before .before .before .before .before .before .args .kinds)) (now (c .before .before .before .before .before .before .before .before .before .before .before .args .pfc-ends)) (now (c .before .before .before .before .before .before .before .before .before .before .before .args .octets))) (c .before .before .before .before .before .before .before .before .before .before .before .pre) (c .before .before .before .before .before .before .before .before .before .before .before .args .length)))
+    ap (λ (b : Bool). startOtherNumber b (a .bench .now) (a .bench .«b_free») (c .before .before .before .before .past .result)) (c .before .before .before .before .before .length-refused .ensures) ∙
+    ap (startOtherNumber (lengthRefused (a .watch .settings .largest) (a .length)) (a .bench .now) (a .bench .«b_free»)) (c .before .before .before .before .past .ensures) ∙
+    start-other-number (a .watch) m (c .before .before .before .before .before .before .before .before .before .before .before .pre) (a .length)))
     (c .refused2 .ensures .0)
     (c .refused2 .ensures .1)
 

@@ -24,10 +24,12 @@ refused-requires c κs = search needs
 
 returns : tie.Need-returns
 returns c =
-    told-refused (c .before .before .before .before .before .before .before .before .before .args .watch) (memoryOf (c .before .before .before .before .before .before .before .before .before .args .bench) (now (c .before .before .before .before .before .before .before .before .before .args .ends)) (now (c .before .before .before .before .before .before .before .before .before .args .kinds)) (now (c .before .before .before .before .before .before .before .before .before .args .pfc-ends)) (now (c .before .before .before .before .before .before .before .before .before .args .octets))) record'.StartPfc (c .before .before .start-pfc-number .result) _ _ (c .before .before .before .before .before .before .before .before .before .pre)
+    let a = c .before .before .before .before .before .before .before .before .before .args in
+    let m = memoryOf (a .bench) (now (a .ends)) (now (a .kinds)) (now (a .pfc-ends)) (now (a .octets)) in
+    told-refused (a .watch) m record'.StartPfc (c .before .before .start-pfc-number .result) _ _ (c .before .before .before .before .before .before .before .before .before .pre)
     (c .before .before .start-pfc-number .ensures ∙
-    ap (λ (b : Bool). startPfcNumber b (c .before .before .before .before .before .before .before .before .before .args .bench .now) (c .before .before .before .before .before .before .before .before .before .args .bench .«b_free») (c .before .before .before .before .before .before .before .before .before .args .bench .«pfc_count»)) (c .before .before .before .not-due .ensures) ∙
-    start-pfc-number (c .before .before .before .before .before .before .before .before .before .args .watch) (memoryOf (c .before .before .before .before .before .before .before .before .before .args .bench) (now (c .before .before .before .before .before .before .before .before .before .args .ends)) (now (c .before .before .before .before .before .before .before .before .before .args .kinds)) (now (c .before .before .before .before .before .before .before .before .before .args .pfc-ends)) (now (c .before .before .before .before .before .before .before .before .before .args .octets))) (c .before .before .before .before .before .before .before .before .before .pre))
+    ap (λ (b : Bool). startPfcNumber b (a .bench .now) (a .bench .«b_free») (a .bench .«pfc_count»)) (c .before .before .before .not-due .ensures) ∙
+    start-pfc-number (a .watch) m (c .before .before .before .before .before .before .before .before .before .pre))
     (c .before .if1 .taken)
     (c .refused .ensures .0)
     (c .refused .ensures .1)
@@ -48,7 +50,10 @@ times-for-requires : tie.Need-times-for-requires
 times-for-requires c κs = search needs
 
 build-at-requires : tie.Need-build-at-requires
-build-at-requires c κs = omega (arith, (c .before .before .before .before .before .before .before .before .before .before .before .pre), (start-pfc-room _ _ _ _ (sym (c .before .before .before .before .start-pfc-number .ensures) ∙ c .before .before .before .if1 .left)))
+build-at-requires c κs =
+    let start = c .before .before .before .before .before .before .before .before .before .before .before in
+    let a = start .args in
+    omega (arith, (start .pre), (start-pfc-room _ _ _ _ (sym (c .before .before .before .before .start-pfc-number .ensures) ∙ c .before .before .before .if1 .left)))
 
 add-next : tie.Need-add-next
 add-next c = search needs
@@ -67,15 +72,17 @@ same-length-2 c = search needs
 
 returns-2 : tie.Need-returns-2
 returns-2 c =
-    start-pfc-answers (c .before .before .before .before .before .before .before .before .before .before .before .before .before .before .before .before .before .args .watch) (memoryOf (c .before .before .before .before .before .before .before .before .before .before .before .before .before .before .before .before .before .args .bench) (now (c .before .before .before .before .before .before .before .before .before .before .before .before .before .before .before .before .before .args .ends)) (now (c .before .before .before .before .before .before .before .before .before .before .before .before .before .before .before .before .before .args .kinds)) (now (c .before .before .before .before .before .before .before .before .before .before .before .before .before .before .before .before .before .args .pfc-ends)) (now (c .before .before .before .before .before .before .before .before .before .before .before .before .before .before .before .before .before .args .octets))) (c .before .before .before .before .before .before .before .before .before .before .before .before .before .before .before .before .before .pre) _ _ _ _ _ _
+    let a = c .before .before .before .before .before .before .before .before .before .before .before .before .before .before .before .before .before .args in
+    let m = memoryOf (a .bench) (now (a .ends)) (now (a .kinds)) (now (a .pfc-ends)) (now (a .octets)) in
+    start-pfc-answers (a .watch) m (c .before .before .before .before .before .before .before .before .before .before .before .before .before .before .before .before .before .pre) _ _ _ _ _ _
     (c .before .before .before .before .before .before .before .before .sum .ensures)
     (c .before .before .before .before .before .before .times-for .ensures)
     (c .before .before .before .before .before .build-at .ensures)
     (c .before .started .ensures)
     (start-pfc-room _ _ _ _ (sym (c .before .before .before .before .before .before .before .before .before .before .start-pfc-number .ensures) ∙ c .before .before .before .before .before .before .before .before .before .if1 .left))
     (sym (c .before .before .before .before .before .before .before .before .before .if1 .left) ∙ (c .before .before .before .before .before .before .before .before .before .before .start-pfc-number .ensures ∙
-    ap (λ (b : Bool). startPfcNumber b (c .before .before .before .before .before .before .before .before .before .before .before .before .before .before .before .before .before .args .bench .now) (c .before .before .before .before .before .before .before .before .before .before .before .before .before .before .before .before .before .args .bench .«b_free») (c .before .before .before .before .before .before .before .before .before .before .before .before .before .before .before .before .before .args .bench .«pfc_count»)) (c .before .before .before .before .before .before .before .before .before .before .before .not-due .ensures) ∙
-    start-pfc-number (c .before .before .before .before .before .before .before .before .before .before .before .before .before .before .before .before .before .args .watch) (memoryOf (c .before .before .before .before .before .before .before .before .before .before .before .before .before .before .before .before .before .args .bench) (now (c .before .before .before .before .before .before .before .before .before .before .before .before .before .before .before .before .before .args .ends)) (now (c .before .before .before .before .before .before .before .before .before .before .before .before .before .before .before .before .before .args .kinds)) (now (c .before .before .before .before .before .before .before .before .before .before .before .before .before .before .before .before .before .args .pfc-ends)) (now (c .before .before .before .before .before .before .before .before .before .before .before .before .before .before .before .before .before .args .octets))) (c .before .before .before .before .before .before .before .before .before .before .before .before .before .before .before .before .before .pre)))
+    ap (λ (b : Bool). startPfcNumber b (a .bench .now) (a .bench .«b_free») (a .bench .«pfc_count»)) (c .before .before .before .before .before .before .before .before .before .before .before .not-due .ensures) ∙
+    start-pfc-number (a .watch) m (c .before .before .before .before .before .before .before .before .before .before .before .before .before .before .before .before .before .pre)))
     (c .refused2 .ensures .0)
     (c .refused2 .ensures .1)
 

@@ -31,8 +31,11 @@ same-length c = search needs
 
 returns : tie.Need-returns
 returns c =
-    told-refused (c .before .before .before .before .before .before .before .before .before .args .watch) (memoryOf (c .before .before .before .before .before .before .before .before .before .args .bench) (now (c .before .before .before .before .before .before .before .before .before .args .ends)) (now (c .before .before .before .before .before .before .before .before .before .args .kinds)) (now (c .before .before .before .before .before .before .before .before .before .args .pfc-ends)) (now (c .before .before .before .before .before .before .before .before .before .args .octets))) record'.TakeEffect 37 _ _ (c .before .before .before .before .before .before .before .before .before .pre)
-    (sym (pick-yes _ _ (ap (λ (e : Moment). noneEnded e (c .before .before .before .before .before .before .before .before .before .args .bench .now)) (sym (c .before .before .before .oldest .ensures)) ∙ sym (c .before .before .none-ended .ensures) ∙ c .before .if1 .taken)) ∙ take-effect-number (c .before .before .before .before .before .before .before .before .before .args .watch) (memoryOf (c .before .before .before .before .before .before .before .before .before .args .bench) (now (c .before .before .before .before .before .before .before .before .before .args .ends)) (now (c .before .before .before .before .before .before .before .before .before .args .kinds)) (now (c .before .before .before .before .before .before .before .before .before .args .pfc-ends)) (now (c .before .before .before .before .before .before .before .before .before .args .octets))) (c .before .before .before .before .before .before .before .before .before .pre))
+    let start = c .before .before .before .before .before .before .before .before .before in
+    let a = start .args in
+    let m = memoryOf (a .bench) (now (a .ends)) (now (a .kinds)) (now (a .pfc-ends)) (now (a .octets)) in
+    told-refused (a .watch) m record'.TakeEffect 37 _ _ (start .pre)
+    (sym (pick-yes _ _ (ap (λ (e : Moment). noneEnded e (a .bench .now)) (sym (c .before .before .before .oldest .ensures)) ∙ sym (c .before .before .none-ended .ensures) ∙ c .before .if1 .taken)) ∙ take-effect-number (a .watch) m (start .pre))
     (λ e. omega arith)
     (c .refused .ensures .0)
     (c .refused .ensures .1)
@@ -41,13 +44,18 @@ slice-reshare-prefix-read : tie.Need-slice-reshare-prefix-read
 slice-reshare-prefix-read c = search needs
 
 slice-aggregate-read : tie.Need-slice-aggregate-read
-slice-aggregate-read c = sym (length-take-le 60 (now (c .before .before .before .before .before .before .before .before .before .before .args .octets)) (omega (arith, (c .before .before .before .before .before .before .before .before .before .before .pre))))
+slice-aggregate-read c =
+    let start = c .before .before .before .before .before .before .before .before .before .before in
+    let a = start .args in
+    sym (length-take-le 60 (now (a .octets)) (omega (arith, (start .pre))))
 
 read-requires : tie.Need-read-requires
 read-requires c κs = search needs
 
 sub-left : tie.Need-sub-left
-sub-left c = omega (arith, (ended-some (c .before .before .before .before .before .before .before .before .before .before .before .before .args .bench .«pfc_count») (now (c .before .before .before .before .before .before .before .before .before .before .before .before .args .pfc-ends)) (c .before .before .before .before .before .before .before .before .before .before .before .before .args .bench .now) (ap (λ (e : Moment). noneEnded e (c .before .before .before .before .before .before .before .before .before .before .before .before .args .bench .now)) (sym (c .before .before .before .before .before .before .oldest .ensures)) ∙ sym (c .before .before .before .before .before .none-ended .ensures) ∙ c .before .before .before .before .if1 .left)))
+sub-left c =
+    let a = c .before .before .before .before .before .before .before .before .before .before .before .before .args in
+    omega (arith, (ended-some (a .bench .«pfc_count») (now (a .pfc-ends)) (a .bench .now) (ap (λ (e : Moment). noneEnded e (a .bench .now)) (sym (c .before .before .before .before .before .before .oldest .ensures)) ∙ sym (c .before .before .before .before .before .none-ended .ensures) ∙ c .before .before .before .before .if1 .left)))
 
 shift-requires : tie.Need-shift-requires
 shift-requires c κs = search needs
@@ -72,16 +80,18 @@ same-length-3 c = search needs
 
 returns-2 : tie.Need-returns-2
 returns-2 c =
-    let a = c .before .before .before .before .before .before .before .before .before .before .before .before .before .before .before .before .before .before .before .before .before .before .args in
-    let some : 1 ≤ a .bench .«pfc_count» = (ended-some (c .before .before .before .before .before .before .before .before .before .before .before .before .before .before .before .before .before .before .before .before .before .before .args .bench .«pfc_count») (now (c .before .before .before .before .before .before .before .before .before .before .before .before .before .before .before .before .before .before .before .before .before .before .args .pfc-ends)) (c .before .before .before .before .before .before .before .before .before .before .before .before .before .before .before .before .before .before .before .before .before .before .args .bench .now) (ap (λ (e : Moment). noneEnded e (c .before .before .before .before .before .before .before .before .before .before .before .before .before .before .before .before .before .before .before .before .before .before .args .bench .now)) (sym (c .before .before .before .before .before .before .before .before .before .before .before .before .before .before .before .before .oldest .ensures)) ∙ sym (c .before .before .before .before .before .before .before .before .before .before .before .before .before .before .before .none-ended .ensures) ∙ c .before .before .before .before .before .before .before .before .before .before .before .before .before .before .if1 .left)) in
+    let start = c .before .before .before .before .before .before .before .before .before .before .before .before .before .before .before .before .before .before .before .before .before .before in
+    let a = start .args in
+    let m = memoryOf (a .bench) (now (a .ends)) (now (a .kinds)) (now (a .pfc-ends)) (now (a .octets)) in
+    let some : 1 ≤ a .bench .«pfc_count» = (ended-some (a .bench .«pfc_count») (now (a .pfc-ends)) (a .bench .now) (ap (λ (e : Moment). noneEnded e (a .bench .now)) (sym (c .before .before .before .before .before .before .before .before .before .before .before .before .before .before .before .before .oldest .ensures)) ∙ sym (c .before .before .before .before .before .before .before .before .before .before .before .before .before .before .before .none-ended .ensures) ∙ c .before .before .before .before .before .before .before .before .before .before .before .before .before .before .if1 .left)) in
     let counted : a .bench .«pfc_count» ≡ a .bench .«pfc_count» - 1 + 1 = omega arith in
-    take-effect-told (c .before .before .before .before .before .before .before .before .before .before .before .before .before .before .before .before .before .before .before .before .before .before .args .watch) (memoryOf (c .before .before .before .before .before .before .before .before .before .before .before .before .before .before .before .before .before .before .before .before .before .before .args .bench) (now (c .before .before .before .before .before .before .before .before .before .before .before .before .before .before .before .before .before .before .before .before .before .before .args .ends)) (now (c .before .before .before .before .before .before .before .before .before .before .before .before .before .before .before .before .before .before .before .before .before .before .args .kinds)) (now (c .before .before .before .before .before .before .before .before .before .before .before .before .before .before .before .before .before .before .before .before .before .before .args .pfc-ends)) (now (c .before .before .before .before .before .before .before .before .before .before .before .before .before .before .before .before .before .before .before .before .before .before .args .octets))) (c .before .before .before .before .before .before .before .before .before .before .before .before .before .before .before .before .before .before .before .before .before .before .pre) _ _ _ _ _ _ _
+    take-effect-told (a .watch) m (start .pre) _ _ _ _ _ _ _
     (c .before .before .before .before .before .before .before .before .shift .ensures)
     (c .before .before .before .before .shift-octets .ensures)
     (c .before .before .before .before .before .before .before .before .before .before .before .read .ensures)
     (c .before .effect .ensures)
     counted
-    (sym (pick-no _ _ (ap (λ (e : Moment). noneEnded e (c .before .before .before .before .before .before .before .before .before .before .before .before .before .before .before .before .before .before .before .before .before .before .args .bench .now)) (sym (c .before .before .before .before .before .before .before .before .before .before .before .before .before .before .before .before .oldest .ensures)) ∙ sym (c .before .before .before .before .before .before .before .before .before .before .before .before .before .before .before .none-ended .ensures) ∙ c .before .before .before .before .before .before .before .before .before .before .before .before .before .before .if1 .left)) ∙ take-effect-number (c .before .before .before .before .before .before .before .before .before .before .before .before .before .before .before .before .before .before .before .before .before .before .args .watch) (memoryOf (c .before .before .before .before .before .before .before .before .before .before .before .before .before .before .before .before .before .before .before .before .before .before .args .bench) (now (c .before .before .before .before .before .before .before .before .before .before .before .before .before .before .before .before .before .before .before .before .before .before .args .ends)) (now (c .before .before .before .before .before .before .before .before .before .before .before .before .before .before .before .before .before .before .before .before .before .before .args .kinds)) (now (c .before .before .before .before .before .before .before .before .before .before .before .before .before .before .before .before .before .before .before .before .before .before .args .pfc-ends)) (now (c .before .before .before .before .before .before .before .before .before .before .before .before .before .before .before .before .before .before .before .before .before .before .args .octets))) (c .before .before .before .before .before .before .before .before .before .before .before .before .before .before .before .before .before .before .before .before .before .before .pre))
+    (sym (pick-no _ _ (ap (λ (e : Moment). noneEnded e (a .bench .now)) (sym (c .before .before .before .before .before .before .before .before .before .before .before .before .before .before .before .before .oldest .ensures)) ∙ sym (c .before .before .before .before .before .before .before .before .before .before .before .before .before .before .before .none-ended .ensures) ∙ c .before .before .before .before .before .before .before .before .before .before .before .before .before .before .if1 .left)) ∙ take-effect-number (a .watch) m (start .pre))
     (c .refused2 .ensures .0)
     (c .refused2 .ensures .1)
 

@@ -20,8 +20,10 @@ refused-requires c κs = search needs
 
 returns : tie.Need-returns
 returns c =
-    told-refused (c .before .before .before .before .before .before .before .before .before .args .watch) (memoryOf (c .before .before .before .before .before .before .before .before .before .args .bench) (now (c .before .before .before .before .before .before .before .before .before .args .ends)) (now (c .before .before .before .before .before .before .before .before .before .args .kinds)) (now (c .before .before .before .before .before .before .before .before .before .args .pfc-ends)) (now (c .before .before .before .before .before .before .before .before .before .args .octets))) (record'.TakeOctets (c .before .before .before .before .before .before .before .before .before .args .priority) (c .before .before .before .before .before .before .before .before .before .args .count)) (c .before .before .before .taken .result .refusal) _ _ (c .before .before .before .before .before .before .before .before .before .pre)
-    (take-octets-number (c .before .before .before .before .before .before .before .before .before .args .watch) (memoryOf (c .before .before .before .before .before .before .before .before .before .args .bench) (now (c .before .before .before .before .before .before .before .before .before .args .ends)) (now (c .before .before .before .before .before .before .before .before .before .args .kinds)) (now (c .before .before .before .before .before .before .before .before .before .args .pfc-ends)) (now (c .before .before .before .before .before .before .before .before .before .args .octets))) (c .before .before .before .before .before .before .before .before .before .pre) (c .before .before .before .before .before .before .before .before .before .args .priority) (c .before .before .before .before .before .before .before .before .before .args .count) _ (c .before .before .before .taken .ensures))
+    let a = c .before .before .before .before .before .before .before .before .before .args in
+    let m = memoryOf (a .bench) (now (a .ends)) (now (a .kinds)) (now (a .pfc-ends)) (now (a .octets)) in
+    told-refused (a .watch) m (record'.TakeOctets (a .priority) (a .count)) (c .before .before .before .taken .result .refusal) _ _ (c .before .before .before .before .before .before .before .before .before .pre)
+    (take-octets-number (a .watch) m (c .before .before .before .before .before .before .before .before .before .pre) (a .priority) (a .count) _ (c .before .before .before .taken .ensures))
     (c .before .if1 .taken)
     (c .refused .ensures .0)
     (c .refused .ensures .1)
@@ -31,9 +33,12 @@ refused-requires-2 c κs = search needs
 
 returns-2 : tie.Need-returns-2
 returns-2 c =
-    take-octets-answers (c .before .before .before .before .before .before .before .before .before .before .args .watch) (memoryOf (c .before .before .before .before .before .before .before .before .before .before .args .bench) (now (c .before .before .before .before .before .before .before .before .before .before .args .ends)) (now (c .before .before .before .before .before .before .before .before .before .before .args .kinds)) (now (c .before .before .before .before .before .before .before .before .before .before .args .pfc-ends)) (now (c .before .before .before .before .before .before .before .before .before .before .args .octets))) (c .before .before .before .before .before .before .before .before .before .before .pre) (c .before .before .before .before .before .before .before .before .before .before .args .priority) (c .before .before .before .before .before .before .before .before .before .before .args .count) _ _ _
-    (take-octets-recorder (c .before .before .before .before .before .before .before .before .before .before .args .watch) (memoryOf (c .before .before .before .before .before .before .before .before .before .before .args .bench) (now (c .before .before .before .before .before .before .before .before .before .before .args .ends)) (now (c .before .before .before .before .before .before .before .before .before .before .args .kinds)) (now (c .before .before .before .before .before .before .before .before .before .before .args .pfc-ends)) (now (c .before .before .before .before .before .before .before .before .before .before .args .octets))) (c .before .before .before .before .before .before .before .before .before .before .pre) (c .before .before .before .before .before .before .before .before .before .before .args .priority) (c .before .before .before .before .before .before .before .before .before .before .args .count) _ (c .before .before .before .before .taken .ensures) (c .before .before .if1 .left))
-    (sym (c .before .before .if1 .left) ∙ (take-octets-number (c .before .before .before .before .before .before .before .before .before .before .args .watch) (memoryOf (c .before .before .before .before .before .before .before .before .before .before .args .bench) (now (c .before .before .before .before .before .before .before .before .before .before .args .ends)) (now (c .before .before .before .before .before .before .before .before .before .before .args .kinds)) (now (c .before .before .before .before .before .before .before .before .before .before .args .pfc-ends)) (now (c .before .before .before .before .before .before .before .before .before .before .args .octets))) (c .before .before .before .before .before .before .before .before .before .before .pre) (c .before .before .before .before .before .before .before .before .before .before .args .priority) (c .before .before .before .before .before .before .before .before .before .before .args .count) _ (c .before .before .before .before .taken .ensures)))
+    let start = c .before .before .before .before .before .before .before .before .before .before in
+    let a = start .args in
+    let m = memoryOf (a .bench) (now (a .ends)) (now (a .kinds)) (now (a .pfc-ends)) (now (a .octets)) in
+    take-octets-answers (a .watch) m (start .pre) (a .priority) (a .count) _ _ _
+    (take-octets-recorder (a .watch) m (start .pre) (a .priority) (a .count) _ (c .before .before .before .before .taken .ensures) (c .before .before .if1 .left))
+    (sym (c .before .before .if1 .left) ∙ (take-octets-number (a .watch) m (start .pre) (a .priority) (a .count) _ (c .before .before .before .before .taken .ensures)))
     (c .refused2 .ensures .0)
     (c .refused2 .ensures .1)
 

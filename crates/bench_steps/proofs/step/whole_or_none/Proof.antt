@@ -1,0 +1,21 @@
+-- `bench_steps::step::whole_or_none` meets its contract. Assumes nothing.
+use Rattle.ground.proofs.Pick.{pick-yes, pick-no}
+use mathlib.Core.Path.{sym, _∙_}
+use borrow.Author.Needs.{needs}
+use Rattle.bench_steps.proofs.step.whole_or_none.Statement.{statement}
+use Rattle.bench_steps.proofs.step.whole_or_none.Tie as tie
+
+refused-requires : tie.Need-refused-requires
+refused-requires c κs = search needs
+
+refused-requires-2 : tie.Need-refused-requires-2
+refused-requires-2 c κs = search needs
+
+returns : tie.Need-returns
+returns c = (c .refused .ensures .0 ∙ sym (pick-yes 40 0 (c .before .if1 .taken)), c .refused .ensures .1 ∙ sym (pick-yes _ _ (c .before .if1 .taken)))
+
+returns-2 : tie.Need-returns-2
+returns-2 c = (c .refused2 .ensures .0 ∙ sym (pick-no 40 0 (c .before .if1 .left)), c .refused2 .ensures .1 ∙ sym (pick-no _ _ (c .before .if1 .left)))
+
+pub whole-or-none-spec : {M : Type 1} → statement M
+whole-or-none-spec = tie.close (tie.spec refused-requires refused-requires-2 returns returns-2)

@@ -1,0 +1,18 @@
+-- `bench_steps::wait::fell_at` meets its contract. Assumes nothing.
+use Rattle.bench_steps.specs.Walk.{fellAt}
+use Rattle.ground.proofs.Pick.{pick-yes, pick-no}
+use borrow.Author.Tests.{eq-eqb, ne-eqb}
+use mathlib.Core.Path.{sym}
+use Rattle.bench_steps.proofs.wait.fell_at.Statement.{statement}
+use Rattle.bench_steps.proofs.wait.fell_at.Tie as tie
+
+returns : tie.Need-returns
+unfolding fellAt
+returns c = sym (pick-yes _ _ (eq-eqb _ _ (c .if1 .taken)))
+
+returns-2 : tie.Need-returns-2
+unfolding fellAt
+returns-2 c = sym (pick-no _ _ (ne-eqb _ _ (c .if1 .left)))
+
+pub fell-at-spec : {M : Type 1} → statement M
+fell-at-spec = tie.close (tie.spec returns returns-2)
