@@ -332,12 +332,12 @@ impl Bench {
 
     /// Time may reach this moment, but not pass it in the state as it is, PFC due since then.
     fn bound(&self, due_since: Option<OctetTimes>) -> OctetTimes {
-        let bounds = [
-            self.data.oldest_bound(),
-            self.requests.oldest_bound(),
-            due_since.map(|due| due + self.delays.generation + self.delays.wire),
-        ];
-        let earliest = bounds.into_iter().flatten().min().unwrap_or(NEVER);
+        let start_bound = due_since.map(|due| due + self.delays.generation + self.delays.wire);
+        // A bound that is not there stands at NEVER before any two are compared.
+        let data_bound = self.data.oldest_bound().unwrap_or(NEVER);
+        let request_bound = self.requests.oldest_bound().unwrap_or(NEVER);
+        let start_bound = start_bound.unwrap_or(NEVER);
+        let earliest = data_bound.min(request_bound).min(start_bound);
         OctetTimes(earliest.0 - u64::from(slipped(Slip::BoundsExclusive)))
     }
 

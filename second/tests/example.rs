@@ -1,8 +1,8 @@
 //! Document 01's example: its input and its output, through the library and through the program.
 
-use std::io::Write;
-use std::process::{Command, Stdio};
+mod common;
 
+use common::output_of;
 use second::hex::octets_of_text;
 
 const INPUT: &str = "
@@ -70,17 +70,4 @@ fn the_vector_program_prints_a_line_a_case() {
         output_of(env!("CARGO_BIN_EXE_second_vectors"), &file),
         "short\nchoice none\nsender 5 -\n"
     );
-}
-
-/// What the program prints when it is fed this input.
-fn output_of(program: &str, input: &[u8]) -> String {
-    let mut child = Command::new(program)
-        .stdin(Stdio::piped())
-        .stdout(Stdio::piped())
-        .spawn()
-        .unwrap();
-    child.stdin.take().unwrap().write_all(input).unwrap();
-    let output = child.wait_with_output().unwrap();
-    assert!(output.status.success());
-    String::from_utf8(output.stdout).unwrap()
 }

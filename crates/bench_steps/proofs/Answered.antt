@@ -22,7 +22,7 @@ use Rattle.recorder.specs.Watching.{timesFor, arrivedAt, startedAt, takenAt, ta
 use Rattle.recorder.specs.declared.watch.Taking.{Taking}
 use Rattle.frame.specs.declared.Verdict.{Verdict}
 use Rattle.bench_steps.specs.Answers.{memoryOf, Lent, memoryFor, Answers, clampedBench, answerOf}
-use Rattle.bench_steps.specs.Records.{decoded}
+use Rattle.records.specs.Records.{decoded}
 use Rattle.bench_steps.specs.declared.step.Answer.{Answer}
 use Rattle.bench_steps.specs.Chains.{lengthRefused, startDataNumber, startOtherNumber, startPfcNumber, oldestOf, noneEnded, overrunBy, lateAfter}
 use Rattle.bench_steps.specs.Held.{kindOf, dataHeld, pfcHeld, over, octetsOf, shifted, viewOf, holding}
@@ -31,8 +31,8 @@ use Rattle.units.specs.Units.{within64}
 use Rattle.bench_steps.proofs.Moments.{past-cut}
 use Rattle.bench_steps.proofs.Shifting.{shift-length}
 use Rattle.bench_steps.specs.Step.{after, sourceB, addressA, dueThen, effectOf, lengthOutside, dataOverdue, pfcOverdue, pastDue, overrun, noDataEnded, noPfcEnded, notDue, waitRefusal, startDataRefusal, arriveRefusal, startOtherRefusal, startPfcRefusal, takeEffectRefusal, refusalOf, nextOf, waited, dataStarted, arrived, otherStarted, pfcStarted, tookEffect, octetsTaken}
-use Rattle.bench_steps.specs.declared.record.Record.{Record}
-use Rattle.bench_steps.specs.declared.record.Record.the-variants.{Wait, StartData, Arrive, StartOther, StartPfc, TakeEffect, TakeOctets, Refused}
+use Rattle.records.specs.declared.Record.{Record}
+use Rattle.records.specs.declared.Record.the-variants.{Wait, StartData, Arrive, StartOther, StartPfc, TakeEffect, TakeOctets, Refused}
 use Rattle.bench_steps.specs.Walk.{walkedBy, walkFrom, afterWalk}
 use Rattle.bench_steps.specs.declared.wait.Walk.{Walk}
 use Rattle.bench_steps.specs.declared.state.Bench.{Bench}

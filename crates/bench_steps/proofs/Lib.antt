@@ -2,7 +2,6 @@
 pub mod Answered
 pub mod DataHeld
 pub mod Decided
-pub mod Decoding
 pub mod Moments
 pub mod Over
 pub mod PfcHeld

@@ -18,7 +18,7 @@ use Rattle.recorder.specs.declared.watch.Watch.{Watch}
 use Rattle.frame.specs.Layout.{octetAt}
 use Rattle.bench_steps.specs.Answers.{memoryOf, Lent, memoryFor, Answers}
 use Rattle.bench_steps.specs.Held.{dataHeld, pfcHeld, viewOf, holding}
-use Rattle.bench_steps.specs.Records.{bodyLength, recordLength, decoded}
+use Rattle.records.specs.Records.{bodyLength, recordLength, decoded}
 use Rattle.bench_steps.specs.Run.{reportOf, benchReport, emptyBench, runFrom, followOf, outcomeOf, settingsIn, refusedReport, watchWith, settledBy, settledOf, firstRefusal}
 use Rattle.headroom_sum.specs.Keep.{kept}
 use Rattle.headroom_sum.specs.declared.Kept.{Kept}
@@ -30,8 +30,8 @@ use Rattle.recorder.proofs.SettingsLaws.{accepted-facts}
 use Rattle.bench_steps.specs.declared.run.Outcome.the-variants as outcome
 use Rattle.bench_steps.specs.State.{DataFrame, PfcFrame, State, empty}
 use Rattle.bench_steps.specs.Step.{lengthOutside, notDue, startDataRefusal, startPfcRefusal, refusalOf, nextOf, waited, dataStarted, arrived, otherStarted, pfcStarted, tookEffect, octetsTaken}
-use Rattle.bench_steps.specs.declared.record.Record.{Record}
-use Rattle.bench_steps.specs.declared.record.Record.the-variants.{Wait, StartData, Arrive, StartOther, StartPfc, TakeEffect, TakeOctets, Refused}
+use Rattle.records.specs.declared.Record.{Record}
+use Rattle.records.specs.declared.Record.the-variants.{Wait, StartData, Arrive, StartOther, StartPfc, TakeEffect, TakeOctets, Refused}
 use Rattle.bench_steps.specs.declared.run.Report.{Report}
 use Rattle.bench_steps.specs.declared.state.Bench.{Bench}
 use Rattle.bench_steps.specs.declared.state.Memory.{Memory}

@@ -8,11 +8,11 @@ use Rattle.ground.specs.Pick.{pick}
 use Rattle.recorder.specs.declared.watch.Watch.{Watch}
 use Rattle.bench_steps.specs.Held.{viewOf, holding}
 use Rattle.bench_steps.specs.Step.{refusalOf, nextOf}
-use Rattle.bench_steps.specs.declared.record.Record.{Record}
+use Rattle.records.specs.declared.Record.{Record}
 use Rattle.bench_steps.specs.declared.state.Bench.{Bench}
 use Rattle.bench_steps.specs.declared.state.Memory.{Memory}
 use Rattle.bench_steps.specs.declared.step.Answer.{Answer}
-use Rattle.bench_steps.specs.Records.{decoded}
+use Rattle.records.specs.Records.{decoded}
 
 -- a memory of its parts
 abbrev pub memoryOf : Bench → List ℕ → List ℕ → List ℕ → List ℕ → Memory

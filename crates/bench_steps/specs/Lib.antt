@@ -2,7 +2,6 @@
 pub mod Answers
 pub mod Chains
 pub mod Held
-pub mod Records
 pub mod Run
 pub mod State
 pub mod Step

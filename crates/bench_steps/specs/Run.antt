@@ -19,7 +19,7 @@ use Rattle.recorder.specs.declared.settings.Settings.{Settings}
 use Rattle.recorder.specs.declared.settings.Settling.{Settling}
 use Rattle.recorder.specs.declared.settings.Settling.the-variants.{Accepted, Refused}
 use Rattle.recorder.specs.declared.watch.Watch.{Watch}
-use Rattle.bench_steps.specs.Records.{recordLength, longAt, decoded}
+use Rattle.records.specs.Records.{recordLength, longAt, decoded}
 use Rattle.bench_steps.specs.State.{State, empty}
 use Rattle.bench_steps.specs.Step.{refusalOf, nextOf}
 use Rattle.bench_steps.specs.declared.run.Outcome.{Outcome}

@@ -18,10 +18,10 @@ use Rattle.recorder.specs.declared.watch.Moment.the-variants.{Never, At}
 use Rattle.recorder.specs.declared.watch.Recorder.{Recorder}
 use Rattle.recorder.specs.declared.watch.Watch.{Watch}
 use Rattle.recorder.specs.Watching.{arrivedAt, takingRefusal, takenAt, refreshOf, dueBy, startedAt, withDue, timesFor}
-use Rattle.bench_steps.specs.Records.{decoded}
+use Rattle.records.specs.Records.{decoded}
 use Rattle.bench_steps.specs.State.{DataFrame, PfcFrame, State}
-use Rattle.bench_steps.specs.declared.record.Record.{Record}
-use Rattle.bench_steps.specs.declared.record.Record.the-variants as record'
+use Rattle.records.specs.declared.Record.{Record}
+use Rattle.records.specs.declared.Record.the-variants as record'
 
 -- a moment plus a count of octet times
 abbrev pub after : ℕ → ℕ → ℕ

@@ -1,5 +1,4 @@
 // A run over a whole input: the settings, then record after record, up to the first refusal.
-use crate::record;
 use crate::state::Bench;
 use crate::step;
 use head::Head;
@@ -32,14 +31,14 @@ fn rooms_in(octets: &[u8]) -> [u64; 8]
     ensures { λ r. ⌜ r ≡ settingsIn (now (octets .entry)) .rooms ⌝ }
 {
     [
-        record::long_at(octets, 26),
-        record::long_at(octets, 30),
-        record::long_at(octets, 34),
-        record::long_at(octets, 38),
-        record::long_at(octets, 42),
-        record::long_at(octets, 46),
-        record::long_at(octets, 50),
-        record::long_at(octets, 54),
+        records::long_at(octets, 26),
+        records::long_at(octets, 30),
+        records::long_at(octets, 34),
+        records::long_at(octets, 38),
+        records::long_at(octets, 42),
+        records::long_at(octets, 46),
+        records::long_at(octets, 50),
+        records::long_at(octets, 54),
     ]
 }
 
@@ -49,14 +48,14 @@ fn settings_in(octets: &[u8]) -> Settings
 {
     let rooms = rooms_in(octets);
     Settings {
-        enabled: record::octet_at(octets, 1),
-        largest: record::word_at(octets, 2) as u64,
-        generation: BitTimes(record::long_at(octets, 4)),
-        request_path: BitTimes(record::long_at(octets, 8)),
-        data_path: BitTimes(record::long_at(octets, 12)),
-        pause: record::word_at(octets, 16),
-        refresh: OctetTimes(record::long_at(octets, 18)),
-        hysteresis: record::long_at(octets, 22),
+        enabled: records::octet_at(octets, 1),
+        largest: records::word_at(octets, 2) as u64,
+        generation: BitTimes(records::long_at(octets, 4)),
+        request_path: BitTimes(records::long_at(octets, 8)),
+        data_path: BitTimes(records::long_at(octets, 12)),
+        pause: records::word_at(octets, 16),
+        refresh: OctetTimes(records::long_at(octets, 18)),
+        hysteresis: records::long_at(octets, 22),
         rooms,
     }
 }
@@ -151,7 +150,7 @@ fn follow(watch: Watch, octets: &[u8]) -> Report
         };
         let next = said.bench;
         bench = next;
-        at = at + 1 + record::body_length(record::octet_at(octets, at));
+        at = at + 1 + records::body_length(records::octet_at(octets, at));
         steps = steps + 1;
     }
     report_of(watch.settings.enabled, bench, steps, 0, 0)
@@ -196,7 +195,7 @@ pub fn run(input: &[u8]) -> Report
     if 65_536 < input.len() {
         return refused_report(45);
     }
-    let number = first_refusal(record::octet_at(input, 0), input.len());
+    let number = first_refusal(records::octet_at(input, 0), input.len());
     if number != 0 {
         return refused_report(number);
     }

@@ -1,6 +1,5 @@
 // One step for each kind of record: its refusal in document 01's order, else the state after it. The arrays are lent, so that the
 // frames under way are not copied at each step.
-use crate::record::Record;
 use crate::rows;
 use crate::state::Bench;
 use crate::state::Memory;
@@ -11,6 +10,7 @@ use head::Head;
 use recorder::watch::Moment;
 use recorder::watch::Recorder;
 use recorder::watch::Watch;
+use records::Record;
 ghost use mathlib.Core.Path.{_≡_};
 ghost use mathlib.Core.Bool.{Bool};
 ghost use Prim.Native.Nat.{_+_, _/_, _%_, _^_, _≤_, min};
@@ -21,7 +21,7 @@ ghost use Rattle.recorder.specs.Watching.{arrivedAt};
 ghost use Rattle.bench_steps.specs.Answers.{Answers, Lent, memoryOf, clampedBench, answerOf};
 ghost use Rattle.bench_steps.specs.Chains.{lengthRefused, oldestOf, noneEnded, overrunBy, lateAfter, startDataNumber, startOtherNumber, startPfcNumber};
 ghost use Rattle.bench_steps.specs.Step.{pastDue, notDue, effectOf, sourceB};
-ghost use Rattle.bench_steps.specs.Records.{decoded};
+ghost use Rattle.records.specs.Records.{decoded};
 ghost use Rattle.bench_steps.specs.Walk.{walkFrom, afterWalk};
 ghost use Rattle.ground.specs.Pick.{pick};
 
@@ -117,12 +117,24 @@ fn start_pfc_number(undue: bool, now: u64, free: u64, count: u64) -> u8
     0
 }
 
+// A refusal: its number, and what goes by value as it was.
 fn refused(number: u8, bench: Bench) -> Stepped
     ensures { λ r. ⌜ (r .refusal ≡ number) × (r .bench ≡ bench) ⌝ }
 {
+    let as_it_was = bench;
     Stepped {
         refusal: number,
-        bench,
+        bench: as_it_was,
+    }
+}
+
+// A record that is accepted: no number, and what goes by value after it.
+fn accepted(next: Bench) -> Stepped
+    ensures { λ r. ⌜ (r .refusal ≡ 0) × (r .bench ≡ next) ⌝ }
+{
+    Stepped {
+        refusal: 0,
+        bench: next,
     }
 }
 
@@ -203,7 +215,7 @@ fn start_data(
     let mut next = bench;
     next.a_free = end;
     next.data_count = bench.data_count + 1;
-    refused(0, next)
+    accepted(next)
 }
 
 // A wait's walk from where the bench stands.
@@ -261,7 +273,7 @@ fn whole_or_none(late: bool, before: Bench, after: Bench) -> Stepped
     if late {
         refused(40, before)
     } else {
-        refused(0, after)
+        accepted(after)
     }
 }
 
@@ -322,7 +334,7 @@ fn arrive(
     let after = arrival(r, watch, kind, bench.now);
     next.recorder = after;
     next.data_count = left;
-    refused(0, next)
+    accepted(next)
 }
 
 // Kind 04: B starts some other frame, which only holds the wire.
@@ -339,16 +351,16 @@ fn start_other(
     ensures { λ r. ⌜ Answers watch (memoryOf bench (now (ends .entry)) (now (kinds .entry)) (now («pfc_ends» .entry)) (now (octets .entry))) (Record.StartOther length) (r .refusal) (memoryOf (r .bench) (now (ends .exit)) (now (kinds .exit)) (now («pfc_ends» .exit)) (now (octets .exit))) ⌝ }
 {
     let r = bench.recorder;
-    let due = r.due;
+    let since = r.due;
     let outside = length_refused(watch.settings.largest, length as u64);
-    let late = past(due, watch.kept.generation.0, bench.now);
+    let late = past(since, watch.kept.generation.0, bench.now);
     let number = start_other_number(outside, bench.now, bench.b_free, late);
     if number != 0 {
         return refused(number, bench);
     }
     let mut next = bench;
     next.b_free = units::sum(bench.now, length as u64 + 20);
-    refused(0, next)
+    accepted(next)
 }
 
 // Whether no PFC frame is due.
@@ -406,7 +418,7 @@ fn start_pfc(
     next.pfc_count = bench.pfc_count + 1;
     let after = recorder::watch::started(r, bench.now);
     next.recorder = after;
-    refused(0, next)
+    accepted(next)
 }
 
 // What a PFC frame does at A: a request is taken, anything else changes nothing.
@@ -449,7 +461,7 @@ fn take_effect(
     let after = effect(found, head);
     next.head = after;
     next.pfc_count = left;
-    refused(0, next)
+    accepted(next)
 }
 
 // Kind 07: B's disk takes octets.
@@ -474,7 +486,7 @@ fn take_octets(
     let mut next = bench;
     let after = taking.recorder;
     next.recorder = after;
-    refused(0, next)
+    accepted(next)
 }
 
 // One record of the bench on lent arrays.
@@ -490,7 +502,7 @@ pub(crate) fn step_lent(
     requires { ⌜ Lent (memoryOf bench (now ends) (now kinds) (now «pfc_ends») (now octets)) ⌝ }
     ensures { λ r. ⌜ Answers watch (memoryOf bench (now (ends .entry)) (now (kinds .entry)) (now («pfc_ends» .entry)) (now (octets .entry))) (decoded (now («record» .entry))) (r .refusal) (memoryOf (r .bench) (now (ends .exit)) (now (kinds .exit)) (now («pfc_ends» .exit)) (now (octets .exit))) ⌝ }
 {
-    let asked = crate::record::decode(record);
+    let asked = records::decode(record);
     match asked {
         Record::Wait(n) => wait_for(watch, bench, ends, kinds, pfc_ends, octets, n),
         Record::StartData(priority, length) => {

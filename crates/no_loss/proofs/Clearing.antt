@@ -19,8 +19,8 @@ use Rattle.recorder.specs.Settings.{isEnabled}
 use Rattle.recorder.specs.Watching.{dueOn, withRoom, arrivedAt, startedAt}
 use Rattle.bench_steps.specs.State.{DataFrame, PfcFrame, State}
 use Rattle.bench_steps.specs.Step.{refusalOf, nextOf, stepOf, waited, arrived, pfcStarted, tookEffect}
-use Rattle.bench_steps.specs.declared.record.Record.{Record}
-use Rattle.bench_steps.specs.declared.record.Record.the-variants as record'
+use Rattle.records.specs.declared.Record.{Record}
+use Rattle.records.specs.declared.Record.the-variants as record'
 use Rattle.no_loss.specs.Runs.{after, AllAccepted, Reaches}
 use Rattle.no_loss.proofs.Terms.{W}
 use Rattle.no_loss.proofs.Rows

@@ -21,8 +21,8 @@ use Rattle.recorder.specs.Settings.{isEnabled}
 use Rattle.recorder.specs.Watching.{emptyRoom, roomAt, limitsOf, withRoom, arrivedAt, takenAt, startedAt, withDue}
 use Rattle.bench_steps.specs.State.{DataFrame, PfcFrame, State, empty}
 use Rattle.bench_steps.specs.Step.{refusalOf, nextOf, stepOf, waited, dataStarted, arrived, otherStarted, pfcStarted, tookEffect, octetsTaken}
-use Rattle.bench_steps.specs.declared.record.Record.{Record}
-use Rattle.bench_steps.specs.declared.record.Record.the-variants as record'
+use Rattle.records.specs.declared.Record.{Record}
+use Rattle.records.specs.declared.Record.the-variants as record'
 use Rattle.no_loss.specs.Runs.{after, oldestBrings, brings, arriving, notFitting, droppedSum, spanSum, worstFrom}
 use Rattle.no_loss.proofs.Group.{Group}
 use Rattle.no_loss.proofs.Watches.{SoundWatch, termsOf, mark-is, enabled-below}

@@ -15,11 +15,11 @@ use Rattle.recorder.specs.declared.settings.Settings.{Settings}
 use Rattle.recorder.specs.Room.{heldAfter, droppedAfter, wantedAfter, spanAfter, spanKept, arrivedIn, takenFrom}
 use Rattle.recorder.specs.Settings.{isEnabled, someRoomBelow, someRoomAbove, houseRefusal, settingsRefusal, settling}
 use Rattle.recorder.specs.Watching.{emptyRoom, roomAt, limitsOf, differ, dueOn, withRoom, arrivedAt, takingRefusal, takenAt, someWanted, refreshFrom, refreshOf, dueBy, startedAt, withDue, timeFor, timesFor}
-use Rattle.bench_steps.specs.Records.{bodyLength, bodyOf, sizedRefusal, decoded}
+use Rattle.records.specs.Records.{bodyLength, bodyOf, sizedRefusal, decoded}
 use Rattle.bench_steps.specs.Run.{runFrom, firstRefusal, settledBy, runOf}
 use Rattle.bench_steps.specs.Step.{lengthOutside, dataOverdue, pfcOverdue, pastDue, overrun, noDataEnded, noPfcEnded, notDue, waitRefusal, startDataRefusal, arriveRefusal, startOtherRefusal, startPfcRefusal, takeEffectRefusal, refusalOf, effectOf, waited, dataStarted, arrived, otherStarted, pfcStarted, tookEffect, octetsTaken, nextOf, stepOf}
-use Rattle.bench_steps.specs.declared.record.Record.{Record}
-use Rattle.bench_steps.specs.declared.record.Record.the-variants as record'
+use Rattle.records.specs.declared.Record.{Record}
+use Rattle.records.specs.declared.Record.the-variants as record'
 use Rattle.no_loss.specs.Runs.{after, reached}
 
 -- enabled 08, M 2000, generation 200, request path 49588, data path 43444, T 65535, I 100000, hysteresis 0, rooms 17779

@@ -9,7 +9,7 @@ use mathlib.Core.List.{List}
 use native.Mathlib.Omega.{arith}
 use Rattle.recorder.specs.declared.settings.Settings.{Settings}
 use Rattle.recorder.specs.Settings.{isEnabled, settingsRefusal}
-use Rattle.bench_steps.specs.declared.record.Record.{Record}
+use Rattle.records.specs.declared.Record.{Record}
 use Rattle.no_loss.specs.Runs.{watchOf, NothingLost}
 use Rattle.no_loss.proofs.Watches.{sound-watch}
 use Rattle.no_loss.proofs.Run.{inv-reached}

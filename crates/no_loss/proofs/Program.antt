@@ -24,11 +24,11 @@ use Rattle.recorder.specs.declared.watch.Watch.{Watch}
 use Rattle.recorder.specs.Settings.{isEnabled, headroomOf, settingsRefusal, settling}
 use Rattle.recorder.specs.Watching.{emptyRoom}
 use Rattle.recorder.proofs.Settled.{keptFor}
-use Rattle.bench_steps.specs.Records.{recordLength, decoded}
+use Rattle.records.specs.Records.{recordLength, decoded}
 use Rattle.bench_steps.specs.Run.{settingsIn, runFrom, followOf, watchWith, settledBy, runOf}
 use Rattle.bench_steps.specs.State.{State, empty}
 use Rattle.bench_steps.specs.Step.{refusalOf, nextOf, stepOf}
-use Rattle.bench_steps.specs.declared.record.Record.{Record}
+use Rattle.records.specs.declared.Record.{Record}
 use Rattle.bench_steps.specs.declared.run.Report.{Report}
 use Rattle.no_loss.specs.Runs.{watchOf, after}
 use Rattle.no_loss.proofs.Watches.{enabled-below}

@@ -8,8 +8,8 @@ use mathlib.Core.List.{List}
 use Rattle.recorder.specs.declared.settings.Settings.{Settings}
 use Rattle.recorder.specs.Settings.{settingsRefusal}
 use Rattle.bench_steps.specs.Step.{refusalOf, nextOf}
-use Rattle.bench_steps.specs.declared.record.Record.{Record}
-use Rattle.bench_steps.specs.declared.record.Record.the-variants as record'
+use Rattle.records.specs.declared.Record.{Record}
+use Rattle.records.specs.declared.Record.the-variants as record'
 use Rattle.no_loss.specs.Runs.{watchOf, reached, Reaches}
 use Rattle.no_loss.proofs.Watches.{sound-watch}
 use Rattle.no_loss.proofs.Run.{inv-reached}

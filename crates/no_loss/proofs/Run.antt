@@ -8,8 +8,8 @@ use Rattle.ground.specs.Pick.{pick}
 use Rattle.recorder.specs.declared.watch.Watch.{Watch}
 use Rattle.bench_steps.specs.State.{State, empty}
 use Rattle.bench_steps.specs.Step.{refusalOf, nextOf, stepOf}
-use Rattle.bench_steps.specs.declared.record.Record.{Record}
-use Rattle.bench_steps.specs.declared.record.Record.the-variants as record'
+use Rattle.records.specs.declared.Record.{Record}
+use Rattle.records.specs.declared.Record.the-variants as record'
 use Rattle.no_loss.specs.Runs.{after}
 use Rattle.no_loss.proofs.Refusals
 use Rattle.no_loss.proofs.Watches.{SoundWatch}

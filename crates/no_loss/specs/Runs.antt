@@ -12,8 +12,8 @@ use Rattle.recorder.specs.Settings.{headroomOf}
 use Rattle.recorder.specs.Watching.{roomAt, limitsOf}
 use Rattle.bench_steps.specs.State.{DataFrame, State, empty}
 use Rattle.bench_steps.specs.Step.{refusalOf, stepOf}
-use Rattle.bench_steps.specs.declared.record.Record.{Record}
-use Rattle.bench_steps.specs.declared.record.Record.the-variants as record'
+use Rattle.records.specs.declared.Record.{Record}
+use Rattle.records.specs.declared.Record.the-variants as record'
 
 -- settings with the sums that they carry
 abbrev pub watchOf : Settings → Watch

@@ -1,6 +1,9 @@
 //! What the tests share: settings with known delays, records in hex order, and whole runs.
 #![allow(dead_code)]
 
+use std::io::Write;
+use std::process::{Command, Stdio};
+
 use second::bench::{run, Bench, Record};
 use second::refusal::Refusal;
 use second::settings::Settings;
@@ -220,4 +223,17 @@ pub fn bench_with_data_under_way(frames: usize) -> Bench {
     }
     accept_all(&mut bench, &[start_data(1, 64)]);
     bench
+}
+
+/// What the program prints when it is fed this input.
+pub fn output_of(program: &str, input: &[u8]) -> String {
+    let mut child = Command::new(program)
+        .stdin(Stdio::piped())
+        .stdout(Stdio::piped())
+        .spawn()
+        .unwrap();
+    child.stdin.take().unwrap().write_all(input).unwrap();
+    let output = child.wait_with_output().unwrap();
+    assert!(output.status.success());
+    String::from_utf8(output.stdout).unwrap()
 }

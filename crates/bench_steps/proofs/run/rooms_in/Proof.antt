@@ -1,5 +1,5 @@
 -- `bench_steps::run::rooms_in` meets its contract. Assumes nothing.
-use Rattle.bench_steps.specs.Records.{longAt}
+use Rattle.records.specs.Records.{longAt}
 use Rattle.ground.proofs.Eight.{eight-is}
 use denote.Ref.{now}
 use Prim.Native.Nat.{ℕ, _+_, _*_}

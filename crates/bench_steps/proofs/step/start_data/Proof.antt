@@ -1,11 +1,11 @@
 -- `bench_steps::step::start_data` meets its contract. Assumes nothing.
 use Rattle.bench_steps.proofs.Answered.{told-refused, start-data-number, start-data-room, start-data-answers}
-use Rattle.bench_steps.specs.declared.record.Record.the-variants as record'
+use Rattle.records.specs.declared.Record.the-variants as record'
 use mathlib.Core.Bool.{Bool, true, false}
 use mathlib.Core.Path.{_≡_, refl, sym, ap, _∙_}
 use Prim.Native.Nat.{ℕ, _+_, _*_, _-_, _≤_}
 use Rattle.bench_steps.proofs.Answered.{told-refused, told-accepted, start-data-number, start-data-memory, start-data-room}
-use Rattle.bench_steps.specs.declared.record.Record.the-variants.{StartData}
+use Rattle.records.specs.declared.Record.the-variants.{StartData}
 use Rattle.bench_steps.specs.Step.{refusalOf, nextOf, dataStarted}
 use Rattle.bench_steps.specs.Held.{viewOf, kindOf}
 use Rattle.bench_steps.specs.Chains.{lengthRefused, startDataNumber}
@@ -74,8 +74,8 @@ slice-write-kinds c = omega (arith, (c .before .before .before .before .before .
 add-next : tie.Need-add-next
 add-next c = search needs
 
-refused-requires-2 : tie.Need-refused-requires-2
-refused-requires-2 c κs = search needs
+accepted-requires : tie.Need-accepted-requires
+accepted-requires c κs = search needs
 
 same-length : tie.Need-same-length
 same-length c = search needs
@@ -95,8 +95,8 @@ returns-2 c =
     ap (λ (b : Bool). startDataNumber (a .priority) b (a .bench .now) (a .bench .«a_free») (c .before .before .before .before .before .is-paused .result) (a .bench .«data_count»)) (c .before .before .before .before .before .before .length-refused .ensures) ∙
     ap (λ (b : Bool). startDataNumber (a .priority) (lengthRefused (a .watch .settings .largest) (a .length)) (a .bench .now) (a .bench .«a_free») b (a .bench .«data_count»)) (c .before .before .before .before .before .is-paused .ensures) ∙
     start-data-number (a .watch) m (start .pre) (a .priority) (a .length)))
-    (c .refused2 .ensures .0)
-    (c .refused2 .ensures .1)
+    (c .accepted .ensures .0)
+    (c .accepted .ensures .1)
 
 pub start-data-spec : {M : Type 1} → statement M
 start-data-spec =
@@ -116,7 +116,7 @@ start-data-spec =
     mul-kinds-2
     slice-write-kinds
     add-next
-    refused-requires-2
+    accepted-requires
     same-length
     same-length-2
     returns-2)

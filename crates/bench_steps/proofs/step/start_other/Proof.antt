@@ -1,7 +1,7 @@
 -- `bench_steps::step::start_other` meets its contract. Assumes nothing.
 use Rattle.bench_steps.proofs.Answered.{told-refused, start-other-number, start-other-answers}
 use Rattle.bench_steps.specs.Chains.{lengthRefused, startOtherNumber}
-use Rattle.bench_steps.specs.declared.record.Record.the-variants as record'
+use Rattle.records.specs.declared.Record.the-variants as record'
 use Rattle.bench_steps.specs.Answers.{memoryOf, Lent}
 use denote.Ref.{now}
 use native.Mathlib.Omega.{arith}
@@ -44,8 +44,8 @@ add-sum c = search needs
 sum-requires : tie.Need-sum-requires
 sum-requires c κs = search needs
 
-refused-requires-2 : tie.Need-refused-requires-2
-refused-requires-2 c κs = search needs
+accepted-requires : tie.Need-accepted-requires
+accepted-requires c κs = search needs
 
 returns-2 : tie.Need-returns-2
 returns-2 c =
@@ -57,8 +57,8 @@ returns-2 c =
     ap (λ (b : Bool). startOtherNumber b (a .bench .now) (a .bench .«b_free») (c .before .before .before .before .past .result)) (c .before .before .before .before .before .length-refused .ensures) ∙
     ap (startOtherNumber (lengthRefused (a .watch .settings .largest) (a .length)) (a .bench .now) (a .bench .«b_free»)) (c .before .before .before .before .past .ensures) ∙
     start-other-number (a .watch) m (c .before .before .before .before .before .before .before .before .before .before .before .pre) (a .length)))
-    (c .refused2 .ensures .0)
-    (c .refused2 .ensures .1)
+    (c .accepted .ensures .0)
+    (c .accepted .ensures .1)
 
 pub start-other-spec : {M : Type 1} → statement M
 start-other-spec =
@@ -71,5 +71,5 @@ start-other-spec =
     returns
     add-sum
     sum-requires
-    refused-requires-2
+    accepted-requires
     returns-2)

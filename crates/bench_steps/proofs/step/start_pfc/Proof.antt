@@ -1,7 +1,7 @@
 -- `bench_steps::step::start_pfc` meets its contract. Assumes nothing.
 use Rattle.bench_steps.proofs.Answered.{told-refused, start-pfc-number, start-pfc-room, start-pfc-answers}
 use Rattle.bench_steps.specs.Chains.{startPfcNumber}
-use Rattle.bench_steps.specs.declared.record.Record.the-variants as record'
+use Rattle.records.specs.declared.Record.the-variants as record'
 use Rattle.bench_steps.specs.Answers.{memoryOf, Lent}
 use denote.Ref.{now}
 use native.Mathlib.Omega.{arith}
@@ -61,8 +61,8 @@ add-next c = search needs
 started-requires : tie.Need-started-requires
 started-requires c κs = search needs
 
-refused-requires-2 : tie.Need-refused-requires-2
-refused-requires-2 c κs = search needs
+accepted-requires : tie.Need-accepted-requires
+accepted-requires c κs = search needs
 
 same-length : tie.Need-same-length
 same-length c = search needs
@@ -83,8 +83,8 @@ returns-2 c =
     (sym (c .before .before .before .before .before .before .before .before .before .if1 .left) ∙ (c .before .before .before .before .before .before .before .before .before .before .start-pfc-number .ensures ∙
     ap (λ (b : Bool). startPfcNumber b (a .bench .now) (a .bench .«b_free») (a .bench .«pfc_count»)) (c .before .before .before .before .before .before .before .before .before .before .before .not-due .ensures) ∙
     start-pfc-number (a .watch) m (c .before .before .before .before .before .before .before .before .before .before .before .before .before .before .before .before .before .pre)))
-    (c .refused2 .ensures .0)
-    (c .refused2 .ensures .1)
+    (c .accepted .ensures .0)
+    (c .accepted .ensures .1)
 
 pub start-pfc-spec : {M : Type 1} → statement M
 start-pfc-spec =
@@ -102,7 +102,7 @@ start-pfc-spec =
     build-at-requires
     add-next
     started-requires
-    refused-requires-2
+    accepted-requires
     same-length
     same-length-2
     returns-2)

@@ -1,5 +1,5 @@
 -- `bench_steps::step::step_lent` meets its contract. Assumes nothing.
-use Rattle.bench_steps.proofs.Decoding.{decoded-nonzero}
+use Rattle.records.proofs.Decoding.{decoded-nonzero}
 use Rattle.bench_steps.proofs.Answered.{answers-asked, octets-answers}
 use Rattle.bench_steps.specs.Answers.{memoryOf}
 use denote.Ref.{now}

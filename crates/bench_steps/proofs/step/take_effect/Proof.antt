@@ -5,7 +5,7 @@ use Rattle.bench_steps.proofs.Answered.{told-refused, take-effect-numbe
 use Rattle.bench_steps.specs.Chains.{noneEnded, oldestOf}
 use Rattle.recorder.specs.declared.watch.Moment.{Moment}
 use Rattle.ground.proofs.Pick.{pick-yes, pick-no}
-use Rattle.bench_steps.specs.declared.record.Record.the-variants as record'
+use Rattle.records.specs.declared.Record.the-variants as record'
 use Rattle.bench_steps.specs.Answers.{memoryOf, Lent}
 use denote.Ref.{now}
 use native.Mathlib.Omega.{arith}
@@ -69,8 +69,8 @@ shift-octets-requires c κs = search needs
 effect-requires : tie.Need-effect-requires
 effect-requires c κs = search needs
 
-refused-requires-2 : tie.Need-refused-requires-2
-refused-requires-2 c κs = search needs
+accepted-requires : tie.Need-accepted-requires
+accepted-requires c κs = search needs
 
 same-length-2 : tie.Need-same-length-2
 same-length-2 c = search needs
@@ -92,8 +92,8 @@ returns-2 c =
     (c .before .effect .ensures)
     counted
     (sym (pick-no _ _ (ap (λ (e : Moment). noneEnded e (a .bench .now)) (sym (c .before .before .before .before .before .before .before .before .before .before .before .before .before .before .before .before .oldest .ensures)) ∙ sym (c .before .before .before .before .before .before .before .before .before .before .before .before .before .before .before .none-ended .ensures) ∙ c .before .before .before .before .before .before .before .before .before .before .before .before .before .before .if1 .left)) ∙ take-effect-number (a .watch) m (start .pre))
-    (c .refused2 .ensures .0)
-    (c .refused2 .ensures .1)
+    (c .accepted .ensures .0)
+    (c .accepted .ensures .1)
 
 pub take-effect-spec : {M : Type 1} → statement M
 take-effect-spec =
@@ -112,7 +112,7 @@ take-effect-spec =
     mul-shift-octets
     shift-octets-requires
     effect-requires
-    refused-requires-2
+    accepted-requires
     same-length-2
     same-length-3
     returns-2)

@@ -1,6 +1,6 @@
 -- `bench_steps::step::take_octets` meets its contract. Assumes nothing.
 use Rattle.bench_steps.proofs.Answered.{told-refused, take-octets-number, take-octets-recorder, take-octets-answers}
-use Rattle.bench_steps.specs.declared.record.Record.the-variants as record'
+use Rattle.records.specs.declared.Record.the-variants as record'
 use Rattle.bench_steps.specs.Answers.{memoryOf, Lent}
 use denote.Ref.{now}
 use native.Mathlib.Omega.{arith}
@@ -28,8 +28,8 @@ returns c =
     (c .refused .ensures .0)
     (c .refused .ensures .1)
 
-refused-requires-2 : tie.Need-refused-requires-2
-refused-requires-2 c κs = search needs
+accepted-requires : tie.Need-accepted-requires
+accepted-requires c κs = search needs
 
 returns-2 : tie.Need-returns-2
 returns-2 c =
@@ -39,9 +39,9 @@ returns-2 c =
     take-octets-answers (a .watch) m (start .pre) (a .priority) (a .count) _ _ _
     (take-octets-recorder (a .watch) m (start .pre) (a .priority) (a .count) _ (c .before .before .before .before .taken .ensures) (c .before .before .if1 .left))
     (sym (c .before .before .if1 .left) ∙ (take-octets-number (a .watch) m (start .pre) (a .priority) (a .count) _ (c .before .before .before .before .taken .ensures)))
-    (c .refused2 .ensures .0)
-    (c .refused2 .ensures .1)
+    (c .accepted .ensures .0)
+    (c .accepted .ensures .1)
 
 pub take-octets-spec : {M : Type 1} → statement M
 take-octets-spec =
-    tie.close (tie.spec taken-requires refused-requires returns refused-requires-2 returns-2)
+    tie.close (tie.spec taken-requires refused-requires returns accepted-requires returns-2)

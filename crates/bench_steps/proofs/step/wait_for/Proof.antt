@@ -1,7 +1,7 @@
 -- `bench_steps::step::wait_for` meets its contract. Assumes nothing.
 use Rattle.bench_steps.proofs.Answered.{told-refused, wait-41, wait-answers}
 use Rattle.bench_steps.specs.Answers.{memoryOf}
-use Rattle.bench_steps.specs.declared.record.Record.the-variants.{Wait}
+use Rattle.records.specs.declared.Record.the-variants.{Wait}
 use denote.Ref.{now}
 use native.Mathlib.Omega.{arith}
 use borrow.Author.Needs.{needs}

@@ -8,14 +8,14 @@ use Rattle.bench_steps.proofs.step.whole_or_none.Tie as tie
 refused-requires : tie.Need-refused-requires
 refused-requires c κs = search needs
 
-refused-requires-2 : tie.Need-refused-requires-2
-refused-requires-2 c κs = search needs
+accepted-requires : tie.Need-accepted-requires
+accepted-requires c κs = search needs
 
 returns : tie.Need-returns
 returns c = (c .refused .ensures .0 ∙ sym (pick-yes 40 0 (c .before .if1 .taken)), c .refused .ensures .1 ∙ sym (pick-yes _ _ (c .before .if1 .taken)))
 
 returns-2 : tie.Need-returns-2
-returns-2 c = (c .refused2 .ensures .0 ∙ sym (pick-no 40 0 (c .before .if1 .left)), c .refused2 .ensures .1 ∙ sym (pick-no _ _ (c .before .if1 .left)))
+returns-2 c = (c .accepted .ensures .0 ∙ sym (pick-no 40 0 (c .before .if1 .left)), c .accepted .ensures .1 ∙ sym (pick-no _ _ (c .before .if1 .left)))
 
 pub whole-or-none-spec : {M : Type 1} → statement M
-whole-or-none-spec = tie.close (tie.spec refused-requires refused-requires-2 returns returns-2)
+whole-or-none-spec = tie.close (tie.spec refused-requires accepted-requires returns returns-2)

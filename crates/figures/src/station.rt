@@ -1,0 +1,106 @@
+// Station A: quanta that pass, requests that are taken, and the choice.
+use crate::turns;
+use head::Choice;
+use head::Head;
+use units::Quanta;
+ghost use Prim.Native.Nat.{_≤_};
+
+// The timer of the priority that a turn looks at.
+fn timer_of(head: Head, turn: u64) -> u64 {
+    let timers = head.timers;
+    timers[(turn % 8) as usize] as u64
+}
+
+// A quantum passes; where the timers have run down they are set anew before it.
+fn quantum(head: Head, turn: u64) -> Head {
+    if turn % 65_536 == 0 {
+        let set = head.taken(255, turns::times(65_535));
+        return set.passed(Quanta(1));
+    }
+    head.passed(Quanta(1))
+}
+
+fn many_quanta(head: Head, turn: u64) -> Head {
+    let set = head.taken(255, turns::times(turn));
+    set.passed(Quanta(100))
+}
+
+// The head after a turn of the work that is asked.
+fn after(what: u8, head: Head, turn: u64) -> Head {
+    match what {
+        0x03 => quantum(head, turn),
+        0x04 => many_quanta(head, turn),
+        _ => head.taken((turn % 256) as u8, turns::times(turn)),
+    }
+}
+
+pub(crate) fn timers(what: u8, turns: u64) -> u64 {
+    let mut head = Head::fresh(255);
+    let mut sum: u64 = 0;
+    let mut turn: u64 = 0;
+    while turn < turns {
+        let next = after(what, head, turn);
+        head = next;
+        sum = turns::add(sum, timer_of(next, turn));
+        turn += 1;
+    }
+    turns::add(sum, head.indications as u64)
+}
+
+// The head of a class: its own number as a priority where the bit of this value is one, else none.
+fn present(turn: u64, value: u64, class: u8) -> u8
+    requires { ⌜ 1 ≤ value ⌝ }
+{
+    if turn / value % 2 == 1 { class } else { 8 }
+}
+
+fn heads(turn: u64) -> [u8; 8] {
+    [
+        present(turn, 1, 0),
+        present(turn, 2, 1),
+        present(turn, 4, 2),
+        present(turn, 8, 3),
+        present(turn, 16, 4),
+        present(turn, 32, 5),
+        present(turn, 64, 6),
+        present(turn, 128, 7),
+    ]
+}
+
+fn marks(o: u64) -> [bool; 8] {
+    [
+        o % 2 == 1,
+        o / 2 % 2 == 1,
+        o / 4 % 2 == 1,
+        o / 8 % 2 == 1,
+        o / 16 % 2 == 1,
+        o / 32 % 2 == 1,
+        o / 64 % 2 == 1,
+        o / 128 % 2 == 1,
+    ]
+}
+
+// The class of priority 0: out of range at every sixteenth turn.
+fn first_class(turn: u64) -> u8 {
+    if turn % 16 == 15 { 8 } else { 0 }
+}
+
+fn chosen(turn: u64) -> u64 {
+    let map = [first_class(turn), 1, 2, 3, 4, 5, 6, 7];
+    let answer = head::choose(heads(turn), map, marks(turn / 256));
+    match answer {
+        Choice::Class(class) => 100 + class as u64,
+        Choice::Nothing => 0,
+        Choice::Refused(number) => number as u64,
+    }
+}
+
+pub(crate) fn choices(turns: u64) -> u64 {
+    let mut sum: u64 = 0;
+    let mut turn: u64 = 0;
+    while turn < turns {
+        sum = turns::add(sum, chosen(turn));
+        turn += 1;
+    }
+    sum
+}

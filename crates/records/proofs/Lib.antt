@@ -1,0 +1,3 @@
+-- Laws about the records.
+pub mod Decided
+pub mod Decoding
