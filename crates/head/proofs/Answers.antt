@@ -15,7 +15,7 @@ use Rattle.head.specs.Choice.{choice, highest, mayGo, numberOf, refusal}
 use Rattle.head.specs.Answers.{Answered, Free, Rightly}
 use Rattle.head.specs.Answers.Answered.{answered-class, answered-nothing, answered-refused}
 use Rattle.head.proofs.Refusals.{refusal-rightly}
-use Rattle.head.proofs.Some.{highest-below, highest-here}
+use Rattle.head.proofs.Highest.{highest-below, highest-here}
 
 -- the highest below a bound of which a test holds, or none
 data Highest (test : ℕ → Bool) (bound : ℕ) : Choice → Type 0 where

@@ -5,7 +5,7 @@ use Prim.Native.Nat.{ℕ, _+_, _-_, _≤_}
 use native.Mathlib.Omega.{arith}
 use lib.ListN.{length, getD}
 use Rattle.head.specs.Timers.{lowered}
-use Rattle.head.proofs.Eights.{eight-same, eight-of-list}
+use Rattle.ground.proofs.Eight.{eight-same, eight-of-list}
 
 -- no quanta change nothing
 pub lowered-by-none : (timers : List ℕ) → length timers ≡ 8 → timers ≡ lowered timers 0

@@ -9,7 +9,7 @@ use Rattle.ground.specs.Eight.{eight, isSet}
 use Rattle.head.specs.declared.Head.{Head}
 use Rattle.head.specs.Marks.{replacedAll, replacedIf}
 use Rattle.head.specs.Timers.{timer, timerAfterRequest}
-use Rattle.head.proofs.Eights.{eight-same}
+use Rattle.ground.proofs.Eight.{eight-same}
 
 replaced-if : (e enabled : Bool) (time timer : ℕ) → replacedIf e enabled time timer ≡ pick (e && enabled) time timer
 unfolding pick

@@ -7,10 +7,11 @@ use borrow.Author.Tests.{ltb-true, lt-ltb, eqb-false, ne-eqb}
 use lib.Dec.{eqb, ltb}
 use lib.ListN.{getD}
 use Rattle.ground.specs.Pick.{pick}
-use Rattle.head.specs.Choice.{isMisplaced, refusal, some, someAbove}
+use Rattle.head.specs.Choice.{isMisplaced, refusal, someAbove}
 use Rattle.head.specs.Answers.{EntryAbove, HeadMisplaced, Rightly}
 use Rattle.head.specs.Answers.Rightly.{rightly-22, rightly-20, rightly-21, rightly-0}
-use Rattle.head.proofs.Some.{some-found, some-here}
+use Rattle.ground.specs.Eight.{eight, some}
+use Rattle.ground.proofs.Eight.{some-found, some-here}
 
 -- the chain on the values of its three tests
 pub refusal-22 : (heads map : List ℕ) → someAbove 7 map ≡ true → refusal heads map ≡ 22
@@ -21,11 +22,11 @@ pub refusal-20 : (heads map : List ℕ) → someAbove 7 map ≡ false → someAb
 unfolding refusal pick
 refusal-20 heads map p q = simp (p, q)
 
-pub refusal-21 : (heads map : List ℕ) → someAbove 7 map ≡ false → someAbove 8 heads ≡ false → some (isMisplaced heads map) ≡ true → refusal heads map ≡ 21
+pub refusal-21 : (heads map : List ℕ) → someAbove 7 map ≡ false → someAbove 8 heads ≡ false → some (eight (isMisplaced heads map)) ≡ true → refusal heads map ≡ 21
 unfolding refusal pick
 refusal-21 heads map p q r = simp (p, q, r)
 
-pub refusal-0 : (heads map : List ℕ) → someAbove 7 map ≡ false → someAbove 8 heads ≡ false → some (isMisplaced heads map) ≡ false → refusal heads map ≡ 0
+pub refusal-0 : (heads map : List ℕ) → someAbove 7 map ≡ false → someAbove 8 heads ≡ false → some (eight (isMisplaced heads map)) ≡ false → refusal heads map ≡ 0
 unfolding refusal pick
 refusal-0 heads map p q r = simp (p, q, r)
 
@@ -43,20 +44,20 @@ mark-misplaced head given c true false p q e = (ltb-true head 8 p, eqb-false giv
 mark-misplaced head given c true true p q e = absurd (false≢true e)
 mark-misplaced head given c false same p q e = absurd (false≢true e)
 
-misplaced-found : (heads map : List ℕ) → some (isMisplaced heads map) ≡ true → HeadMisplaced heads map
+misplaced-found : (heads map : List ℕ) → some (eight (isMisplaced heads map)) ≡ true → HeadMisplaced heads map
 misplaced-found heads map e =
     let found = some-found (isMisplaced heads map) e in
     let told = mark-misplaced (getD heads (found .0) 0) (getD map (getD heads (found .0) 0) 0) (found .0) _ _ refl refl (found .2) in
     (found .0, found .1, told .0, told .1)
 
-misplaced-here : (heads map : List ℕ) → HeadMisplaced heads map → some (isMisplaced heads map) ≡ true
+misplaced-here : (heads map : List ℕ) → HeadMisplaced heads map → some (eight (isMisplaced heads map)) ≡ true
 misplaced-here heads map h =
     some-here (isMisplaced heads map) (h .0) (h .1) (simp (lt-ltb (getD heads (h .0) 0) 8 (h .2), ne-eqb (getD map (getD heads (h .0) 0) 0) (h .0) (h .3)))
 
 no-entry : (limit : ℕ) (entries : List ℕ) → someAbove limit entries ≡ false → EntryAbove limit entries → ⊥
 no-entry limit entries e h = false≢true (sym e ∙ above-here limit entries h)
 
-no-misplaced : (heads map : List ℕ) → some (isMisplaced heads map) ≡ false → HeadMisplaced heads map → ⊥
+no-misplaced : (heads map : List ℕ) → some (eight (isMisplaced heads map)) ≡ false → HeadMisplaced heads map → ⊥
 no-misplaced heads map e h = false≢true (sym e ∙ misplaced-here heads map h)
 
 fails : (test : Bool) → (test ≡ true → ⊥) → test ≡ false
@@ -68,9 +69,9 @@ none-above limit entries h = fails (someAbove limit entries) (λ e. h (above-fou
 
 -- the number that the definition gives is rightly given
 pub refusal-rightly : (heads map : List ℕ) → Rightly heads map (refusal heads map)
-refusal-rightly heads map = by-values (someAbove 7 map) (someAbove 8 heads) (some (isMisplaced heads map)) refl refl refl
+refusal-rightly heads map = by-values (someAbove 7 map) (someAbove 8 heads) (some (eight (isMisplaced heads map))) refl refl refl
   where
-    by-values : (a b d : Bool) → someAbove 7 map ≡ a → someAbove 8 heads ≡ b → some (isMisplaced heads map) ≡ d → Rightly heads map (refusal heads map)
+    by-values : (a b d : Bool) → someAbove 7 map ≡ a → someAbove 8 heads ≡ b → some (eight (isMisplaced heads map)) ≡ d → Rightly heads map (refusal heads map)
     by-values true b d p q r = rw (refusal-22 heads map p) (rightly-22 (above-found 7 map p))
     by-values false true d p q r = rw (refusal-20 heads map p q) (rightly-20 (no-entry 7 map p) (above-found 8 heads q))
     by-values false false true p q r = rw (refusal-21 heads map p q r) (rightly-21 (no-entry 7 map p) (no-entry 8 heads q) (misplaced-found heads map r))
@@ -82,4 +83,4 @@ rightly-refusal heads map (rightly-22 a) = refusal-22 heads map (above-here 7 ma
 rightly-refusal heads map (rightly-20 p b) = refusal-20 heads map (none-above 7 map p) (above-here 8 heads b)
 rightly-refusal heads map (rightly-21 p q d) = refusal-21 heads map (none-above 7 map p) (none-above 8 heads q) (misplaced-here heads map d)
 rightly-refusal heads map (rightly-0 p q r) =
-    refusal-0 heads map (none-above 7 map p) (none-above 8 heads q) (fails (some (isMisplaced heads map)) (λ e. r (misplaced-found heads map e)))
+    refusal-0 heads map (none-above 7 map p) (none-above 8 heads q) (fails (some (eight (isMisplaced heads map))) (λ e. r (misplaced-found heads map e)))

@@ -1,11 +1,11 @@
 -- Document 01, "Timers and choice at A": the choice of the class to send from next.
 use Prim.Native.Nat.{ℕ, zero, suc}
-use mathlib.Core.Bool.{Bool, false, not, _&&_, _||_}
-use mathlib.Core.List.{List, [], _∷_}
+use mathlib.Core.Bool.{Bool, false, not, _&&_}
+use mathlib.Core.List.{List}
 use lib.ListN.{getD}
 use lib.Dec.{eqb, ltb}
 use Rattle.ground.specs.Pick.{pick}
-use Rattle.ground.specs.Eight.{eight}
+use Rattle.ground.specs.Eight.{eight, some}
 use Rattle.head.specs.declared.Choice.{Choice}
 use Rattle.head.specs.declared.Choice.the-variants.{Class, Nothing, Refused}
 
@@ -15,22 +15,13 @@ numberOf (Class c) = 0
 numberOf Nothing = 0
 numberOf (Refused number) = number
 
--- one of the marks is true
-abbrev pub anyOf : List Bool → Bool
-anyOf [] = false
-anyOf (mark ∷ marks) = mark || anyOf marks
-
--- a test holds of some n from 0 to 7
-unfoldable pub some : (ℕ → Bool) → Bool
-some test = anyOf (eight test)
-
 -- "a priority 0 to 7, or 8 for an empty queue": the head of class c is present
 abbrev pub isPresent : List ℕ → ℕ → Bool
 isPresent heads c = ltb (getD heads c 0) 8
 
 -- one of eight entries is above a limit
 abbrev pub someAbove : ℕ → List ℕ → Bool
-someAbove limit entries = some (λ n. ltb limit (getD entries n 0))
+someAbove limit entries = some (eight (λ n. ltb limit (getD entries n 0)))
 
 -- "present head in a class its map doesn't give"
 abbrev pub isMisplaced : List ℕ → List ℕ → ℕ → Bool
@@ -41,7 +32,7 @@ unfoldable pub refusal : List ℕ → List ℕ → ℕ
 refusal heads map =
     pick (someAbove 7 map) 22
     (pick (someAbove 8 heads) 20
-    (pick (some (isMisplaced heads map)) 21
+    (pick (some (eight (isMisplaced heads map))) 21
     0))
 
 -- "present and not paused", by the paused marks of the priorities

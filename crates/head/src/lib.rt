@@ -4,10 +4,10 @@ use units::Quanta;
 ghost use mathlib.Core.Path.{_≡_};
 ghost use Prim.Native.Nat.{_+_, _-_, _%_, _^_, _<_};
 ghost use lib.ListN.{getD};
-ghost use Rattle.ground.specs.Eight.{eight, isSet};
+ghost use Rattle.ground.specs.Eight.{eight, isSet, some};
 ghost use Rattle.head.specs.Timers.{afterQuanta, afterRequest, isPaused, lowered, start};
 ghost use Rattle.head.specs.Marks.{replacedAll, replacedAt, replacedIf};
-ghost use Rattle.head.specs.Choice.{choice, highest, isMisplaced, mayGo, numberOf, refusal, some, someAbove};
+ghost use Rattle.head.specs.Choice.{choice, highest, isMisplaced, mayGo, numberOf, refusal, someAbove};
 
 // The receiver's state: the priorities that PFC is enabled for (bit n is priority n), the timers in quanta, and the count of
 // indications received.
@@ -243,7 +243,7 @@ fn is_misplaced(heads: [u8; 8], map: [u8; 8], class: usize) -> bool
 
 // Whether that holds of some class.
 fn some_misplaced(heads: [u8; 8], map: [u8; 8]) -> bool
-    ensures { λ r. ⌜ r ≡ some (isMisplaced heads map) ⌝ }
+    ensures { λ r. ⌜ r ≡ some (eight (isMisplaced heads map)) ⌝ }
 {
     let mut class: usize = 0;
     while class < 8 {

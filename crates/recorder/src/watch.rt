@@ -230,11 +230,11 @@ pub fn with_due(r: Recorder, due: Moment) -> Recorder
     ensures { λ z. ⌜ z ≡ withDue r due ⌝ }
 {
     let rooms = r.rooms;
-    let last = r.last;
+    let last_start = r.last;
     Recorder {
         rooms,
         due,
-        last,
+        last: last_start,
         sent: r.sent,
     }
 }

@@ -4,7 +4,7 @@ use mathlib.Core.Bool.{Bool}
 use Prim.Native.Nat.{ℕ, _≤_, _-_}
 use native.Mathlib.Omega.{arith}
 use Rattle.head.specs.Choice.{highest, mayGo}
-use Rattle.head.proofs.Some.{highest-below, highest-here, highest-none}
+use Rattle.head.proofs.Highest.{highest-below, highest-here, highest-none}
 use Rattle.head.proofs.highest_free.Statement.{statement}
 use Rattle.head.proofs.highest_free.Tie as tie
 

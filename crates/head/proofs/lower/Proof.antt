@@ -1,7 +1,7 @@
 -- `head::lower` meets its contract: its eight results are the eight timers of the definition. Assumes nothing.
 use Prim.Native.Nat.{_-_}
 use lib.ListN.{getD}
-use Rattle.head.proofs.Eights.{eight-is}
+use Rattle.ground.proofs.Eight.{eight-is}
 use borrow.Author.Needs.{needs}
 use Rattle.head.proofs.lower.Statement.{statement}
 use Rattle.head.proofs.lower.Tie as tie

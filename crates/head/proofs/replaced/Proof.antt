@@ -1,6 +1,6 @@
 -- `head::replaced` meets its contract: its eight results are the eight timers of the definition. Assumes nothing.
 use Rattle.head.specs.Marks.{replacedAt}
-use Rattle.head.proofs.Eights.{eight-is}
+use Rattle.ground.proofs.Eight.{eight-is}
 use borrow.Author.Needs.{needs}
 use Rattle.head.proofs.replaced.Statement.{statement}
 use Rattle.head.proofs.replaced.Tie as tie

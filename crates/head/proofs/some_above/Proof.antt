@@ -8,7 +8,7 @@ use borrow.Author.Needs.{needs}
 use borrow.Author.Tests.{le-ltb, lt-ltb}
 use lib.Dec.{ltb}
 use lib.ListN.{getD}
-use Rattle.head.proofs.Some.{some-here, some-none}
+use Rattle.ground.proofs.Eight.{some-here, some-none}
 use Rattle.head.proofs.some_above.Statement.{statement}
 use Rattle.head.proofs.some_above.Tie as tie
 

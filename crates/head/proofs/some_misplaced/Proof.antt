@@ -6,7 +6,7 @@ use native.Mathlib.Omega.{arith}
 use borrow.Author.Count.{below-more, below-none}
 use borrow.Author.Needs.{needs}
 use Rattle.head.specs.Choice.{isMisplaced}
-use Rattle.head.proofs.Some.{some-here, some-none}
+use Rattle.ground.proofs.Eight.{some-here, some-none}
 use Rattle.head.proofs.some_misplaced.Statement.{statement}
 use Rattle.head.proofs.some_misplaced.Tie as tie
 
