@@ -18,7 +18,7 @@ use Rattle.recorder.specs.declared.watch.Moment.{Moment}
 use Rattle.recorder.specs.declared.watch.Moment.the-variants.{Never, At}
 use Rattle.recorder.specs.declared.watch.Watch.{Watch}
 use Rattle.recorder.specs.declared.watch.Recorder.{Recorder}
-use Rattle.recorder.specs.Watching.{timesFor, arrivedAt, startedAt, takenAt, taking, refreshOf, withDue}
+use Rattle.recorder.specs.Watching.{timesFor, arrivedAt, startedAt, takenAt, taking}
 use Rattle.recorder.specs.declared.watch.Taking.{Taking}
 use Rattle.frame.specs.declared.Verdict.{Verdict}
 use Rattle.bench_steps.specs.Answers.{memoryOf, Lent, memoryFor, Answers, clampedBench, answerOf}

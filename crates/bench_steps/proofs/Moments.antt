@@ -1,6 +1,6 @@
 -- Moments against bounds, as the code tests them. Assumes nothing.
 use Prim.Native.Nat.{ℕ, _+_, _-_, _<_, _≤_, _^_}
-use mathlib.Core.Path.{_≡_, refl, sym, ap, _∙_}
+use mathlib.Core.Path.{_≡_, refl, sym}
 use mathlib.Core.Bool.{Bool, true, false}
 use native.Mathlib.Omega.{arith}
 use lib.Dec.{ltb}

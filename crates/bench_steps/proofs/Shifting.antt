@@ -1,7 +1,7 @@
 -- Moving the places of a list up, one store at a time. Assumes nothing.
-use Prim.Native.Nat.{ℕ, suc, _+_, _<_, _≤_, min}
+use Prim.Native.Nat.{ℕ, suc, _+_, _<_, _≤_}
 use mathlib.Core.Path.{_≡_, refl, sym, ap, _∙_}
-use mathlib.Core.List.{List, [], _∷_, _++_}
+use mathlib.Core.List.{List, _++_}
 use native.Mathlib.Omega.{arith}
 use native.Mathlib.Nat.{add-comm}
 use native.Mathlib.Numerals.{add-one}

@@ -1,19 +1,15 @@
 -- What a kind's step answers on a memory: from the plain values that the code tests and stores to the definitions. Assumes nothing.
-use Prim.Native.Nat.{ℕ, suc, _+_, _*_, _-_, _/_, _%_, _<_, _≤_, _^_}
-use mathlib.Core.Path.{_≡_, refl, sym, ap, _∙_}
-use mathlib.Core.Bool.{Bool, true, false}
-use mathlib.Core.List.{List, [], _∷_, _++_, map, append-nil}
+use Prim.Native.Nat.{ℕ, _+_, _-_, _≤_}
+use mathlib.Core.Path.{_≡_, ap, _∙_}
+use mathlib.Core.List.{List, _++_, append-nil}
 use native.Mathlib.Omega.{arith}
-use lib.Dec.{ltb, leb, eqb}
-use lib.ListN.{length, getD, take, drop, set, length-set, length-drop, drop-of-length-le}
+use lib.ListN.{length, take, drop, length-drop, drop-of-length-le}
 use lib.Seq.{drop-drop}
 use borrow.Rule.Slice.PartMut.{putMid}
 use Rattle.ground.proofs.Parts.{take-rest}
-use borrow.Author.Tests.{eq-eqb, ne-eqb, le-ltb, lt-ltb}
+use borrow.Author.Tests.{le-ltb}
 use Rattle.ground.specs.Pick.{pick}
-use Rattle.ground.proofs.Pick.{pick-yes, pick-no}
 use Rattle.frame.specs.Build.{builtFrame, buildVerdict, bufferFor, bufferAfter}
-use Rattle.frame.specs.declared.Built.the-variants.{Written}
 use Rattle.recorder.specs.Settings.{isEnabled}
 use Rattle.recorder.specs.Watching.{arrivedAt}
 use Rattle.recorder.specs.declared.watch.Recorder.{Recorder}

@@ -12,6 +12,7 @@ use Rattle.records.specs.declared.Record.{Record}
 use Rattle.bench_steps.specs.declared.state.Bench.{Bench}
 use Rattle.bench_steps.specs.declared.state.Memory.{Memory}
 use Rattle.bench_steps.specs.declared.step.Answer.{Answer}
+use Rattle.bench_steps.specs.declared.step.Stepped.{Stepped}
 use Rattle.records.specs.Records.{decoded}
 
 -- a memory of its parts
@@ -28,6 +29,13 @@ pub record Lent (m : Memory) : Type 0 where
   pub data-count : m .bench .«data_count» ≤ 128
   pub pfc-count : m .bench .«pfc_count» ≤ 128
 
+-- the same of the data frames' arrays alone, and of the PFC frames'
+abbrev pub DataLent : Bench → List ℕ → List ℕ → Type 0
+DataLent bench dataEnds dataKinds = (length dataEnds ≡ 128) × (length dataKinds ≡ 128) × (bench .«data_count» ≤ 128)
+
+abbrev pub PfcLent : Bench → List ℕ → List ℕ → Type 0
+PfcLent bench pfcEnds pfcOctets = (length pfcEnds ≡ 128) × (length pfcOctets ≡ 7680) × (bench .«pfc_count» ≤ 128)
+
 -- the memory after a record is asked: the next state, or all as it was
 unfoldable pub memoryFor : Watch → Memory → Record → Memory
 memoryFor w m asked = pick (eqb (refusalOf w (viewOf m) asked) 0) (holding m (nextOf w (viewOf m) asked)) m
@@ -36,6 +44,24 @@ pub record Answers (w : Watch) (m : Memory) (asked : Record) (number : ℕ) (the
   pub number-is : number ≡ refusalOf w (viewOf m) asked
   pub memory-is : then ≡ memoryFor w m asked
   pub lent : Lent then
+
+-- what a step answers that changes no array, whatever they hold; one that looks at two; one that changes those of the data frames; those
+-- of the PFC frames
+abbrev pub AnswersAlone : Watch → Bench → Record → Stepped → Type 0
+AnswersAlone w bench asked said =
+    (dataEnds dataKinds pfcEnds pfcOctets : List ℕ) → Lent (memoryOf bench dataEnds dataKinds pfcEnds pfcOctets) → Answers w (memoryOf bench dataEnds dataKinds pfcEnds pfcOctets) asked (said .refusal) (memoryOf (said .bench) dataEnds dataKinds pfcEnds pfcOctets)
+
+abbrev pub AnswersBeside : Watch → Bench → List ℕ → List ℕ → Record → Stepped → Type 0
+AnswersBeside w bench dataEnds pfcEnds asked said =
+    (dataKinds pfcOctets : List ℕ) → Lent (memoryOf bench dataEnds dataKinds pfcEnds pfcOctets) → Answers w (memoryOf bench dataEnds dataKinds pfcEnds pfcOctets) asked (said .refusal) (memoryOf (said .bench) dataEnds dataKinds pfcEnds pfcOctets)
+
+abbrev pub AnswersWithData : Watch → Bench → List ℕ → List ℕ → Record → Stepped → List ℕ → List ℕ → Type 0
+AnswersWithData w bench dataEnds dataKinds asked said endsThen kindsThen =
+    (pfcEnds pfcOctets : List ℕ) → Lent (memoryOf bench dataEnds dataKinds pfcEnds pfcOctets) → Answers w (memoryOf bench dataEnds dataKinds pfcEnds pfcOctets) asked (said .refusal) (memoryOf (said .bench) endsThen kindsThen pfcEnds pfcOctets)
+
+abbrev pub AnswersWithPfc : Watch → Bench → List ℕ → List ℕ → Record → Stepped → List ℕ → List ℕ → Type 0
+AnswersWithPfc w bench pfcEnds pfcOctets asked said endsThen octetsThen =
+    (dataEnds dataKinds : List ℕ) → Lent (memoryOf bench dataEnds dataKinds pfcEnds pfcOctets) → Answers w (memoryOf bench dataEnds dataKinds pfcEnds pfcOctets) asked (said .refusal) (memoryOf (said .bench) dataEnds dataKinds endsThen octetsThen)
 
 -- as many frames as the arrays can hold, where a state says more
 abbrev pub clampedBench : Bench → Bench

@@ -18,7 +18,7 @@ ghost use mathlib.Core.List.{_++_};
 ghost use lib.ListN.{length, take, drop};
 ghost use Rattle.frame.specs.Build.{builtFrame};
 ghost use Rattle.recorder.specs.Watching.{arrivedAt};
-ghost use Rattle.bench_steps.specs.Answers.{Answers, Lent, memoryOf, clampedBench, answerOf};
+ghost use Rattle.bench_steps.specs.Answers.{Answers, AnswersAlone, AnswersBeside, AnswersWithData, AnswersWithPfc, DataLent, Lent, PfcLent, memoryOf, clampedBench, answerOf};
 ghost use Rattle.bench_steps.specs.Chains.{lengthRefused, oldestOf, noneEnded, overrunBy, lateAfter, startDataNumber, startOtherNumber, startPfcNumber};
 ghost use Rattle.bench_steps.specs.Step.{pastDue, notDue, effectOf, sourceB};
 ghost use Rattle.records.specs.Records.{decoded};
@@ -187,13 +187,11 @@ fn start_data(
     bench: Bench,
     ends: &mut [u64],
     kinds: &mut [u64],
-    pfc_ends: &mut [u64],
-    octets: &mut [u8],
     priority: u8,
     length: u16,
 ) -> Stepped
-    requires { ⌜ Lent (memoryOf bench (now ends) (now kinds) (now «pfc_ends») (now octets)) ⌝ }
-    ensures { λ r. ⌜ Answers watch (memoryOf bench (now (ends .entry)) (now (kinds .entry)) (now («pfc_ends» .entry)) (now (octets .entry))) (Record.StartData priority length) (r .refusal) (memoryOf (r .bench) (now (ends .exit)) (now (kinds .exit)) (now («pfc_ends» .exit)) (now (octets .exit))) ⌝ }
+    requires { ⌜ DataLent bench (now ends) (now kinds) ⌝ }
+    ensures { λ r. ⌜ AnswersWithData watch bench (now (ends .entry)) (now (kinds .entry)) (Record.StartData priority length) r (now (ends .exit)) (now (kinds .exit)) ⌝ }
 {
     let head = bench.head;
     let outside = length_refused(watch.settings.largest, length as u64);
@@ -278,17 +276,9 @@ fn whole_or_none(late: bool, before: Bench, after: Bench) -> Stepped
 }
 
 // Kind 01: n octet times pass, all of them or none.
-fn wait_for(
-    watch: Watch,
-    bench: Bench,
-    ends: &mut [u64],
-    kinds: &mut [u64],
-    pfc_ends: &mut [u64],
-    octets: &mut [u8],
-    n: u16,
-) -> Stepped
-    requires { ⌜ Lent (memoryOf bench (now ends) (now kinds) (now «pfc_ends») (now octets)) ⌝ }
-    ensures { λ r. ⌜ Answers watch (memoryOf bench (now (ends .entry)) (now (kinds .entry)) (now («pfc_ends» .entry)) (now (octets .entry))) (Record.Wait n) (r .refusal) (memoryOf (r .bench) (now (ends .exit)) (now (kinds .exit)) (now («pfc_ends» .exit)) (now (octets .exit))) ⌝ }
+fn wait_for(watch: Watch, bench: Bench, ends: &[u64], pfc_ends: &[u64], n: u16) -> Stepped
+    requires { ⌜ (length (now ends) ≡ 128) × (length (now «pfc_ends») ≡ 128) ⌝ }
+    ensures { λ r. ⌜ AnswersBeside watch bench (now (ends .entry)) (now («pfc_ends» .entry)) (Record.Wait n) r ⌝ }
 {
     if 1_099_511_627_776 < units::sum(bench.now, n as u64) {
         return refused(41, bench);
@@ -310,16 +300,9 @@ fn arrival(r: Recorder, watch: Watch, kind: u64, now: u64) -> Recorder
 }
 
 // Kind 03: the oldest data frame reaches B.
-fn arrive(
-    watch: Watch,
-    bench: Bench,
-    ends: &mut [u64],
-    kinds: &mut [u64],
-    pfc_ends: &mut [u64],
-    octets: &mut [u8],
-) -> Stepped
-    requires { ⌜ Lent (memoryOf bench (now ends) (now kinds) (now «pfc_ends») (now octets)) ⌝ }
-    ensures { λ r. ⌜ Answers watch (memoryOf bench (now (ends .entry)) (now (kinds .entry)) (now («pfc_ends» .entry)) (now (octets .entry))) Record.Arrive (r .refusal) (memoryOf (r .bench) (now (ends .exit)) (now (kinds .exit)) (now («pfc_ends» .exit)) (now (octets .exit))) ⌝ }
+fn arrive(watch: Watch, bench: Bench, ends: &mut [u64], kinds: &mut [u64]) -> Stepped
+    requires { ⌜ DataLent bench (now ends) (now kinds) ⌝ }
+    ensures { λ r. ⌜ AnswersWithData watch bench (now (ends .entry)) (now (kinds .entry)) Record.Arrive r (now (ends .exit)) (now (kinds .exit)) ⌝ }
 {
     if none_ended(oldest(ends, bench.data_count), bench.now) {
         return refused(37, bench);
@@ -338,17 +321,8 @@ fn arrive(
 }
 
 // Kind 04: B starts some other frame, which only holds the wire.
-fn start_other(
-    watch: Watch,
-    bench: Bench,
-    ends: &mut [u64],
-    kinds: &mut [u64],
-    pfc_ends: &mut [u64],
-    octets: &mut [u8],
-    length: u16,
-) -> Stepped
-    requires { ⌜ Lent (memoryOf bench (now ends) (now kinds) (now «pfc_ends») (now octets)) ⌝ }
-    ensures { λ r. ⌜ Answers watch (memoryOf bench (now (ends .entry)) (now (kinds .entry)) (now («pfc_ends» .entry)) (now (octets .entry))) (Record.StartOther length) (r .refusal) (memoryOf (r .bench) (now (ends .exit)) (now (kinds .exit)) (now («pfc_ends» .exit)) (now (octets .exit))) ⌝ }
+fn start_other(watch: Watch, bench: Bench, length: u16) -> Stepped
+    ensures { λ r. ⌜ AnswersAlone watch bench (Record.StartOther length) r ⌝ }
 {
     let r = bench.recorder;
     let since = r.due;
@@ -387,16 +361,9 @@ fn build_at(octets: &mut [u8], place: usize, enabled: u8, times: [u16; 8])
 }
 
 // Kind 05: B starts the PFC frame, with the marks as they stand.
-fn start_pfc(
-    watch: Watch,
-    bench: Bench,
-    ends: &mut [u64],
-    kinds: &mut [u64],
-    pfc_ends: &mut [u64],
-    octets: &mut [u8],
-) -> Stepped
-    requires { ⌜ Lent (memoryOf bench (now ends) (now kinds) (now «pfc_ends») (now octets)) ⌝ }
-    ensures { λ r. ⌜ Answers watch (memoryOf bench (now (ends .entry)) (now (kinds .entry)) (now («pfc_ends» .entry)) (now (octets .entry))) Record.StartPfc (r .refusal) (memoryOf (r .bench) (now (ends .exit)) (now (kinds .exit)) (now («pfc_ends» .exit)) (now (octets .exit))) ⌝ }
+fn start_pfc(watch: Watch, bench: Bench, pfc_ends: &mut [u64], octets: &mut [u8]) -> Stepped
+    requires { ⌜ PfcLent bench (now «pfc_ends») (now octets) ⌝ }
+    ensures { λ r. ⌜ AnswersWithPfc watch bench (now («pfc_ends» .entry)) (now (octets .entry)) Record.StartPfc r (now («pfc_ends» .exit)) (now (octets .exit)) ⌝ }
 {
     let r = bench.recorder;
     let due = r.due;
@@ -433,16 +400,9 @@ fn effect(found: Verdict, head: Head) -> Head
 }
 
 // Kind 06: the oldest PFC frame takes effect at A.
-fn take_effect(
-    watch: Watch,
-    bench: Bench,
-    ends: &mut [u64],
-    kinds: &mut [u64],
-    pfc_ends: &mut [u64],
-    octets: &mut [u8],
-) -> Stepped
-    requires { ⌜ Lent (memoryOf bench (now ends) (now kinds) (now «pfc_ends») (now octets)) ⌝ }
-    ensures { λ r. ⌜ Answers watch (memoryOf bench (now (ends .entry)) (now (kinds .entry)) (now («pfc_ends» .entry)) (now (octets .entry))) Record.TakeEffect (r .refusal) (memoryOf (r .bench) (now (ends .exit)) (now (kinds .exit)) (now («pfc_ends» .exit)) (now (octets .exit))) ⌝ }
+fn take_effect(watch: Watch, bench: Bench, pfc_ends: &mut [u64], octets: &mut [u8]) -> Stepped
+    requires { ⌜ PfcLent bench (now «pfc_ends») (now octets) ⌝ }
+    ensures { λ r. ⌜ AnswersWithPfc watch bench (now («pfc_ends» .entry)) (now (octets .entry)) Record.TakeEffect r (now («pfc_ends» .exit)) (now (octets .exit)) ⌝ }
 {
     if none_ended(oldest(pfc_ends, bench.pfc_count), bench.now) {
         return refused(37, bench);
@@ -465,18 +425,8 @@ fn take_effect(
 }
 
 // Kind 07: B's disk takes octets.
-fn take_octets(
-    watch: Watch,
-    bench: Bench,
-    ends: &mut [u64],
-    kinds: &mut [u64],
-    pfc_ends: &mut [u64],
-    octets: &mut [u8],
-    priority: u8,
-    count: u16,
-) -> Stepped
-    requires { ⌜ Lent (memoryOf bench (now ends) (now kinds) (now «pfc_ends») (now octets)) ⌝ }
-    ensures { λ r. ⌜ Answers watch (memoryOf bench (now (ends .entry)) (now (kinds .entry)) (now («pfc_ends» .entry)) (now (octets .entry))) (Record.TakeOctets priority count) (r .refusal) (memoryOf (r .bench) (now (ends .exit)) (now (kinds .exit)) (now («pfc_ends» .exit)) (now (octets .exit))) ⌝ }
+fn take_octets(watch: Watch, bench: Bench, priority: u8, count: u16) -> Stepped
+    ensures { λ r. ⌜ AnswersAlone watch bench (Record.TakeOctets priority count) r ⌝ }
 {
     let r = bench.recorder;
     let taking = recorder::watch::taken(r, watch, priority, count as u64, bench.now);
@@ -504,34 +454,15 @@ pub(crate) fn step_lent(
 {
     let asked = records::decode(record);
     match asked {
-        Record::Wait(n) => wait_for(watch, bench, ends, kinds, pfc_ends, octets, n),
+        Record::Wait(n) => wait_for(watch, bench, ends, pfc_ends, n),
         Record::StartData(priority, length) => {
-            start_data(
-                watch,
-                bench,
-                ends,
-                kinds,
-                pfc_ends,
-                octets,
-                priority,
-                length,
-            )
+            start_data(watch, bench, ends, kinds, priority, length)
         }
-        Record::Arrive => arrive(watch, bench, ends, kinds, pfc_ends, octets),
-        Record::StartOther(length) => start_other(
-            watch,
-            bench,
-            ends,
-            kinds,
-            pfc_ends,
-            octets,
-            length,
-        ),
-        Record::StartPfc => start_pfc(watch, bench, ends, kinds, pfc_ends, octets),
-        Record::TakeEffect => take_effect(watch, bench, ends, kinds, pfc_ends, octets),
-        Record::TakeOctets(priority, count) => {
-            take_octets(watch, bench, ends, kinds, pfc_ends, octets, priority, count)
-        }
+        Record::Arrive => arrive(watch, bench, ends, kinds),
+        Record::StartOther(length) => start_other(watch, bench, length),
+        Record::StartPfc => start_pfc(watch, bench, pfc_ends, octets),
+        Record::TakeEffect => take_effect(watch, bench, pfc_ends, octets),
+        Record::TakeOctets(priority, count) => take_octets(watch, bench, priority, count),
         Record::Refused(number) => refused(number, bench),
     }
 }

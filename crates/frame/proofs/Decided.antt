@@ -1,8 +1,6 @@
 -- Any two answers that a contract of this crate permits for the same call are equal, and so are the octets lent to it. It is stated
 -- about the contracts themselves, for every public function, and assumes nothing.
-use Prim.Native.Nat.{ℕ}
 use mathlib.Core.Path.{_≡_, sym, _∙_}
-use mathlib.Core.List.{List}
 use contract.Lifetimes.{Lfts}
 use borrow.Fn.Kinds.{Dens, resT, endedOf}
 use denote.Triple.Clauses.{AtExit}

@@ -2,17 +2,15 @@
 -- own address and every M from 64 to 9,216, with any octets after the sixtieth that M leaves room for. It is for whoever builds at one
 -- end and reads at the other. It assumes that each time fits its two octets, as the builder's type says.
 use Prim.Native.Nat.{ℕ, _+_, _*_, _/_, _%_, _-_, _<_, _≤_}
-use mathlib.Core.Path.{_≡_, refl, ap, _∙_}
-use mathlib.Core.List.{List, [], _∷_, _++_}
+use mathlib.Core.Path.{_≡_, ap, _∙_}
+use mathlib.Core.List.{List, _++_}
 use native.Mathlib.Omega.{arith}
-use lib.Dec.{eqb}
 use lib.ListN.{length, getD}
 use borrow.Author.Tests.{le-ltb, eq-eqb}
 use Rattle.ground.specs.Pick.{pick}
 use Rattle.ground.proofs.Pick.{pick-yes, pick-no}
 use Rattle.frame.specs.Build.{builtFrame}
 use Rattle.frame.specs.Read.{sizeRefusal, isAccepted, controlVerdict, wholeVerdict, verdict, requestOf, requestIn}
-use Rattle.frame.specs.declared.Request.{Request}
 use Rattle.frame.specs.declared.Verdict.the-variants.{Asks}
 
 -- within the limits none of 13, 1 and 2 is given

@@ -1,5 +1,5 @@
 -- What a choice comes to once its test is known.
-use mathlib.Core.Path.{_≡_, refl, subst}
+use mathlib.Core.Path.{_≡_}
 use mathlib.Core.Bool.{Bool, true, false}
 use Rattle.ground.specs.Pick.{pick}
 

@@ -4,7 +4,7 @@ use mathlib.Core.Path.{_≡_, ap}
 use native.Mathlib.Omega.{arith}
 use Rattle.units.specs.Units.{octetsOfBits}
 use Rattle.headroom_sum.specs.Headroom.{wireTime, oneWay, headroom, totalBits}
-use Rattle.headroom_sum.specs.Keep.{kept, keeping}
+use Rattle.headroom_sum.specs.Keep.{keeping}
 use Rattle.headroom_sum.specs.declared.Kept.{Kept}
 use Rattle.headroom_sum.specs.declared.Keeping.{Keeping}
 use Rattle.headroom_sum.proofs.Room.{Within, IsRoom, is-room}

@@ -1,8 +1,7 @@
 -- Every case of specs/Cases holds, by computing. Assumes nothing.
-use Prim.Native.Nat.{ℕ}
 use mathlib.Core.Path.{_≡_, refl}
-use mathlib.Core.Bool.{Bool, true, false}
-use mathlib.Core.List.{List, [], _∷_}
+use mathlib.Core.Bool.{true}
+use mathlib.Core.List.{[], _∷_}
 use Rattle.ground.specs.Pick.{pick}
 use Rattle.headroom_sum.specs.Headroom.{linkBits, haltLimit}
 use Rattle.headroom_sum.specs.Sum.{sumRefusal, summed}

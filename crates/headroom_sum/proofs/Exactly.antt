@@ -1,15 +1,13 @@
 -- Document 01: "Each is given exactly when its condition holds and none earlier in the order does." For the headroom sum, over every
 -- input: the number of the answer stands for its conditions, and where the conditions hold the number is given. Assumes nothing.
 use Prim.Native.Nat.{ℕ}
-use mathlib.Core.Path.{_≡_, refl, sym, _∙_, ap}
+use mathlib.Core.Path.{_≡_, refl, _∙_}
 use mathlib.Core.Bool.{Bool, true, false}
-use lib.Dec.{eqb}
 use Rattle.ground.specs.Pick.{pick}
 use Rattle.headroom_sum.specs.Headroom.{refused10, refused11, refused12, refused13, refused14, refused19, keepRefusal}
-use Rattle.headroom_sum.specs.Keep.{keeping, keepingOf, keepNumberOf, kept, limitAnswer, limitNumberOf}
-use Rattle.headroom_sum.specs.Sum.{sumRefusal, summed, summedOf, sumNumberOf, items, over14, BeforeDelays, Given, given10, given11, given12, given13, given14, given19, given0}
+use Rattle.headroom_sum.specs.Keep.{keeping, keepingOf, keepNumberOf, kept}
+use Rattle.headroom_sum.specs.Sum.{sumRefusal, summed, summedOf, sumNumberOf, items, over14, Given, given10, given11, given12, given13, given14, given19, given0}
 use Rattle.headroom_sum.specs.declared.Inputs.{Inputs}
-use Rattle.headroom_sum.specs.declared.Items.{Items}
 use Rattle.headroom_sum.specs.declared.Kept.{Kept}
 
 -- the number of each answer is the chain's

@@ -1,15 +1,15 @@
 -- Laws of what `keep` answers, for its callers: what a room and a refusal say of the inputs. Assumes nothing.
-use Prim.Native.Nat.{ℕ, _+_, _≤_, _<_}
+use Prim.Native.Nat.{ℕ, _+_, _≤_}
 use mathlib.Core.Path.{_≡_, refl}
 use mathlib.Core.Bool.{Bool, true, false}
 use native.Mathlib.Omega.{arith}
-use borrow.Author.Tests.{ltb-true, ltb-false}
-use lib.Dec.{ltb, eqb}
+use borrow.Author.Tests.{ltb-false}
+use lib.Dec.{ltb}
 use Rattle.ground.specs.Pick.{pick}
 use Rattle.units.specs.declared.OctetTimes.{OctetTimes}
 use Rattle.units.specs.Units.{octetsOfBits}
 use Rattle.headroom_sum.specs.Headroom.{wireTime, oneWay, refused13, refused14, keepRefusal, delayOver, pathOver}
-use Rattle.headroom_sum.specs.Keep.{octets, kept, keeping, keepingOf}
+use Rattle.headroom_sum.specs.Keep.{kept, keeping, keepingOf}
 use Rattle.headroom_sum.specs.declared.Kept.{Kept}
 use Rattle.headroom_sum.specs.declared.Keeping.{Keeping}
 

@@ -1,6 +1,6 @@
 -- Any two answers that a contract of this crate permits for the same call are equal. It is stated about the contracts themselves, for
 -- every public function, and assumes nothing.
-use mathlib.Core.Path.{_≡_, sym, _∙_}
+use mathlib.Core.Path.{sym, _∙_}
 use Rattle.ground.proofs.Decides.{Decides}
 use Rattle.records.proofs.octet_at.Kinds as octet-at-kinds
 use Rattle.records.proofs.octet_at.Reads as octet-at

@@ -1,6 +1,6 @@
 -- Any two answers that a contract of this crate permits for the same call are equal. It is stated about the contracts themselves, for
 -- every public function, and assumes nothing. A count has one field, which its promise decides.
-use mathlib.Core.Path.{_≡_, sym, _∙_}
+use mathlib.Core.Path.{sym, _∙_}
 use Rattle.ground.proofs.Decides.{Decides}
 use Rattle.units.proofs.bits_of_octets.Kinds as bits-of-octets-kinds
 use Rattle.units.proofs.bits_of_octets.Reads as bits-of-octets

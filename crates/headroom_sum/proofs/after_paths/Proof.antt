@@ -1,5 +1,5 @@
 -- `headroom_sum::after_paths` meets its contract: what `keep` answers says whether 14 holds. Assumes nothing.
-use mathlib.Core.Path.{_≡_, _∙_, sym, ap}
+use mathlib.Core.Path.{_∙_, sym, ap}
 use native.Mathlib.Omega.{arith}
 use borrow.Author.Needs.{needs}
 use Rattle.headroom_sum.specs.Sum.{requestOf, dataOf}

@@ -2,8 +2,6 @@
 use Rattle.head.specs.Timers.{afterRequest}
 use Rattle.frame.specs.declared.Verdict.{Verdict}
 use Rattle.bench_steps.specs.Step.{effectOf}
-use Rattle.ground.proofs.Pick.{pick-yes, pick-no}
-use borrow.Author.Tests.{eq-eqb, ne-eqb, lt-ltb, le-ltb, le-leb, lt-leb}
 use mathlib.Core.Path.{sym, ap, _∙_}
 use borrow.Author.Needs.{needs}
 use Rattle.bench_steps.proofs.step.effect.Statement.{statement}

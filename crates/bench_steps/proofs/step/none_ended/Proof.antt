@@ -1,9 +1,7 @@
 -- `bench_steps::step::none_ended` meets its contract. Assumes nothing.
 use Rattle.bench_steps.specs.Chains.{noneEnded}
 use Rattle.recorder.specs.declared.watch.Moment.{Moment}
-use Rattle.ground.proofs.Pick.{pick-yes, pick-no}
-use borrow.Author.Tests.{eq-eqb, ne-eqb, lt-ltb, le-ltb, le-leb, lt-leb}
-use mathlib.Core.Path.{sym, ap, _∙_}
+use mathlib.Core.Path.{sym, ap}
 use borrow.Author.Needs.{needs}
 use Rattle.bench_steps.proofs.step.none_ended.Statement.{statement}
 use Rattle.bench_steps.proofs.step.none_ended.Tie as tie

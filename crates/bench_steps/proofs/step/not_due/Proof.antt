@@ -1,8 +1,6 @@
 -- `bench_steps::step::not_due` meets its contract. Assumes nothing.
 use Rattle.bench_steps.specs.Step.{notDue}
-use Rattle.ground.proofs.Pick.{pick-yes, pick-no}
-use borrow.Author.Tests.{eq-eqb, ne-eqb, lt-ltb, le-ltb, le-leb, lt-leb}
-use mathlib.Core.Path.{sym, ap, _∙_}
+use mathlib.Core.Path.{sym, ap}
 use borrow.Author.Needs.{needs}
 use Rattle.bench_steps.proofs.step.not_due.Statement.{statement}
 use Rattle.bench_steps.proofs.step.not_due.Tie as tie

@@ -1,8 +1,8 @@
 -- `bench_steps::step::oldest` meets its contract. Assumes nothing.
 use Rattle.bench_steps.specs.Chains.{oldestOf}
 use Rattle.ground.proofs.Pick.{pick-yes, pick-no}
-use borrow.Author.Tests.{eq-eqb, ne-eqb, lt-ltb, le-ltb, le-leb, lt-leb}
-use mathlib.Core.Path.{sym, ap, _∙_}
+use borrow.Author.Tests.{eq-eqb, ne-eqb}
+use mathlib.Core.Path.{sym}
 use borrow.Author.Needs.{needs}
 use Rattle.bench_steps.proofs.step.oldest.Statement.{statement}
 use Rattle.bench_steps.proofs.step.oldest.Tie as tie

@@ -1,8 +1,7 @@
 -- `bench_steps::step::overrun` meets its contract. Assumes nothing.
 use Rattle.bench_steps.specs.Chains.{overrunBy}
 use Rattle.ground.proofs.Pick.{pick-yes, pick-no}
-use borrow.Author.Tests.{eq-eqb, ne-eqb, lt-ltb, le-ltb, le-leb, lt-leb}
-use mathlib.Core.Path.{sym, ap, _∙_}
+use mathlib.Core.Path.{sym, _∙_}
 use borrow.Author.Needs.{needs}
 use Rattle.bench_steps.proofs.step.overrun.Statement.{statement}
 use Rattle.bench_steps.proofs.step.overrun.Tie as tie

@@ -2,8 +2,6 @@
 use Rattle.bench_steps.proofs.Moments.{past-since, past-not-yet}
 use Rattle.bench_steps.specs.Step.{pastDue}
 use Rattle.recorder.specs.declared.watch.Moment.{Moment}
-use Rattle.ground.proofs.Pick.{pick-yes, pick-no}
-use borrow.Author.Tests.{eq-eqb, ne-eqb, lt-ltb, le-ltb, le-leb, lt-leb}
 use mathlib.Core.Path.{sym, ap, _∙_}
 use borrow.Author.Needs.{needs}
 use Rattle.bench_steps.proofs.step.past.Statement.{statement}

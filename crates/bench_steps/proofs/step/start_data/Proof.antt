@@ -1,23 +1,14 @@
 -- `bench_steps::step::start_data` meets its contract. Assumes nothing.
 use Rattle.bench_steps.proofs.Answered.{told-refused, start-data-number, start-data-room, start-data-answers}
 use Rattle.records.specs.declared.Record.the-variants as record'
-use mathlib.Core.Bool.{Bool, true, false}
-use mathlib.Core.Path.{_≡_, refl, sym, ap, _∙_}
-use Prim.Native.Nat.{ℕ, _+_, _*_, _-_, _≤_}
-use Rattle.bench_steps.proofs.Answered.{told-refused, told-accepted, start-data-number, start-data-memory, start-data-room}
-use Rattle.records.specs.declared.Record.the-variants.{StartData}
-use Rattle.bench_steps.specs.Step.{refusalOf, nextOf, dataStarted}
-use Rattle.bench_steps.specs.Held.{viewOf, kindOf}
-use Rattle.bench_steps.specs.Chains.{lengthRefused, startDataNumber}
-use Rattle.bench_steps.specs.Answers.{memoryOf, Lent}
-use Rattle.head.specs.Timers.{isPaused}
-use denote.Ref.{now}
-use lib.ListN.{set, length-set}
-use native.Mathlib.Omega.{arith}
-use mathlib.Core.List.{List}
 use mathlib.Core.Bool.{Bool}
-use mathlib.Core.Path.{_≡_, sym, ap, _∙_}
-use Prim.Native.Nat.{ℕ, _+_, _*_, _-_}
+use mathlib.Core.Path.{sym, ap, _∙_}
+use Prim.Native.Nat.{_-_}
+use Rattle.records.specs.declared.Record.the-variants.{StartData}
+use Rattle.bench_steps.specs.Chains.{lengthRefused, startDataNumber}
+use Rattle.bench_steps.specs.Answers.{memoryOf}
+use denote.Ref.{now}
+use native.Mathlib.Omega.{arith}
 use borrow.Author.Needs.{needs}
 use Rattle.bench_steps.proofs.step.start_data.Statement.{statement}
 use Rattle.bench_steps.proofs.step.start_data.Tie as tie
@@ -35,14 +26,14 @@ refused-requires : tie.Need-refused-requires
 refused-requires c κs = search needs
 
 returns : tie.Need-returns
-returns c =
-    let a = c .before .before .before .before .before .before .before .before .before .before .args in
-    let m = memoryOf (a .bench) (now (a .ends)) (now (a .kinds)) (now (a .pfc-ends)) (now (a .octets)) in
-    told-refused (a .watch) m (record'.StartData (a .priority) (a .length)) (c .before .before .start-data-number .result) _ _ (c .before .before .before .before .before .before .before .before .before .before .pre)
+returns c pfcEnds pfcOctets lent =
+    let a = c .before .before .before .before .before .before .before .before .args in
+    let m = memoryOf (a .bench) (now (a .ends)) (now (a .kinds)) pfcEnds pfcOctets in
+    told-refused (a .watch) m (record'.StartData (a .priority) (a .length)) (c .before .before .start-data-number .result) _ _ lent
     (c .before .before .start-data-number .ensures ∙
     ap (λ (b : Bool). startDataNumber (a .priority) b (a .bench .now) (a .bench .«a_free») (c .before .before .before .is-paused .result) (a .bench .«data_count»)) (c .before .before .before .before .length-refused .ensures) ∙
     ap (λ (b : Bool). startDataNumber (a .priority) (lengthRefused (a .watch .settings .largest) (a .length)) (a .bench .now) (a .bench .«a_free») b (a .bench .«data_count»)) (c .before .before .before .is-paused .ensures) ∙
-    start-data-number (a .watch) m (c .before .before .before .before .before .before .before .before .before .before .pre) (a .priority) (a .length))
+    start-data-number (a .watch) m lent (a .priority) (a .length))
     (c .before .if1 .taken)
     (c .refused .ensures .0)
     (c .refused .ensures .1)
@@ -57,7 +48,7 @@ mul-ends : tie.Need-mul-ends
 mul-ends c = search needs
 
 slice-write-ends : tie.Need-slice-write-ends
-slice-write-ends c = omega (arith, (c .before .before .before .before .before .before .before .before .before .before .pre), (start-data-room _ _ _ _ _ _ (sym (c .before .before .start-data-number .ensures) ∙ c .before .if1 .left)))
+slice-write-ends c = omega (arith, (c .before .before .before .before .before .before .before .before .pre), (start-data-room _ _ _ _ _ _ (sym (c .before .before .start-data-number .ensures) ∙ c .before .if1 .left)))
 
 mul-kinds : tie.Need-mul-kinds
 mul-kinds c = search needs
@@ -69,7 +60,7 @@ mul-kinds-2 : tie.Need-mul-kinds-2
 mul-kinds-2 c = search needs
 
 slice-write-kinds : tie.Need-slice-write-kinds
-slice-write-kinds c = omega (arith, (c .before .before .before .before .before .before .before .before .before .before .pre), (start-data-room _ _ _ _ _ _ (sym (c .before .before .start-data-number .ensures) ∙ c .before .if1 .left)))
+slice-write-kinds c = omega (arith, (c .before .before .before .before .before .before .before .before .pre), (start-data-room _ _ _ _ _ _ (sym (c .before .before .start-data-number .ensures) ∙ c .before .if1 .left)))
 
 add-next : tie.Need-add-next
 add-next c = search needs
@@ -84,17 +75,16 @@ same-length-2 : tie.Need-same-length-2
 same-length-2 c = search needs
 
 returns-2 : tie.Need-returns-2
-returns-2 c =
-    let start = c .before .before .before .before .before .before .before .before .before .before .before .before in
-    let a = start .args in
-    let m = memoryOf (a .bench) (now (a .ends)) (now (a .kinds)) (now (a .pfc-ends)) (now (a .octets)) in
-    start-data-answers (a .watch) m (start .pre) (a .priority) (a .length) _ _ _
+returns-2 c pfcEnds pfcOctets lent =
+    let a = c .before .before .before .before .before .before .before .before .before .before .args in
+    let m = memoryOf (a .bench) (now (a .ends)) (now (a .kinds)) pfcEnds pfcOctets in
+    start-data-answers (a .watch) m lent (a .priority) (a .length) _ _ _
     (c .before .before .sum .ensures)
     (start-data-room _ _ _ _ _ _ (sym (c .before .before .before .before .start-data-number .ensures) ∙ c .before .before .before .if1 .left))
     (sym (c .before .before .before .if1 .left) ∙ (c .before .before .before .before .start-data-number .ensures ∙
     ap (λ (b : Bool). startDataNumber (a .priority) b (a .bench .now) (a .bench .«a_free») (c .before .before .before .before .before .is-paused .result) (a .bench .«data_count»)) (c .before .before .before .before .before .before .length-refused .ensures) ∙
     ap (λ (b : Bool). startDataNumber (a .priority) (lengthRefused (a .watch .settings .largest) (a .length)) (a .bench .now) (a .bench .«a_free») b (a .bench .«data_count»)) (c .before .before .before .before .before .is-paused .ensures) ∙
-    start-data-number (a .watch) m (start .pre) (a .priority) (a .length)))
+    start-data-number (a .watch) m lent (a .priority) (a .length)))
     (c .accepted .ensures .0)
     (c .accepted .ensures .1)
 

@@ -2,13 +2,11 @@
 use Rattle.bench_steps.proofs.Answered.{told-refused, start-other-number, start-other-answers}
 use Rattle.bench_steps.specs.Chains.{lengthRefused, startOtherNumber}
 use Rattle.records.specs.declared.Record.the-variants as record'
-use Rattle.bench_steps.specs.Answers.{memoryOf, Lent}
+use Rattle.bench_steps.specs.Answers.{memoryOf}
 use denote.Ref.{now}
-use native.Mathlib.Omega.{arith}
-use mathlib.Core.List.{List}
-use mathlib.Core.Bool.{Bool, true, false}
-use mathlib.Core.Path.{_≡_, refl, sym, ap, _∙_}
-use Prim.Native.Nat.{ℕ, _+_, _*_, _-_, _≤_}
+use mathlib.Core.Bool.{Bool}
+use mathlib.Core.Path.{sym, ap, _∙_}
+use Prim.Native.Nat.{_-_}
 use borrow.Author.Needs.{needs}
 use Rattle.bench_steps.proofs.step.start_other.Statement.{statement}
 use Rattle.bench_steps.proofs.step.start_other.Tie as tie
@@ -26,14 +24,14 @@ refused-requires : tie.Need-refused-requires
 refused-requires c κs = search needs
 
 returns : tie.Need-returns
-returns c =
-    let a = c .before .before .before .before .before .before .before .before .before .before .args in
-    let m = memoryOf (a .bench) (now (a .ends)) (now (a .kinds)) (now (a .pfc-ends)) (now (a .octets)) in
-    told-refused (a .watch) m (record'.StartOther (a .length)) (c .before .before .start-other-number .result) _ _ (c .before .before .before .before .before .before .before .before .before .before .pre)
+returns c dataEnds dataKinds pfcEnds pfcOctets lent =
+    let a = c .before .before .before .before .before .before .args in
+    let m = memoryOf (a .bench) dataEnds dataKinds pfcEnds pfcOctets in
+    told-refused (a .watch) m (record'.StartOther (a .length)) (c .before .before .start-other-number .result) _ _ lent
     (c .before .before .start-other-number .ensures ∙
     ap (λ (b : Bool). startOtherNumber b (a .bench .now) (a .bench .«b_free») (c .before .before .before .past .result)) (c .before .before .before .before .length-refused .ensures) ∙
     ap (startOtherNumber (lengthRefused (a .watch .settings .largest) (a .length)) (a .bench .now) (a .bench .«b_free»)) (c .before .before .before .past .ensures) ∙
-    start-other-number (a .watch) m (c .before .before .before .before .before .before .before .before .before .before .pre) (a .length))
+    start-other-number (a .watch) m lent (a .length))
     (c .before .if1 .taken)
     (c .refused .ensures .0)
     (c .refused .ensures .1)
@@ -48,15 +46,15 @@ accepted-requires : tie.Need-accepted-requires
 accepted-requires c κs = search needs
 
 returns-2 : tie.Need-returns-2
-returns-2 c =
-    let a = c .before .before .before .before .before .before .before .before .before .before .before .args in
-    let m = memoryOf (a .bench) (now (a .ends)) (now (a .kinds)) (now (a .pfc-ends)) (now (a .octets)) in
-    start-other-answers (a .watch) m (c .before .before .before .before .before .before .before .before .before .before .before .pre) (a .length) _ _ _
+returns-2 c dataEnds dataKinds pfcEnds pfcOctets lent =
+    let a = c .before .before .before .before .before .before .before .args in
+    let m = memoryOf (a .bench) dataEnds dataKinds pfcEnds pfcOctets in
+    start-other-answers (a .watch) m lent (a .length) _ _ _
     (c .before .sum .ensures)
     (sym (c .before .before .if1 .left) ∙ (c .before .before .before .start-other-number .ensures ∙
     ap (λ (b : Bool). startOtherNumber b (a .bench .now) (a .bench .«b_free») (c .before .before .before .before .past .result)) (c .before .before .before .before .before .length-refused .ensures) ∙
     ap (startOtherNumber (lengthRefused (a .watch .settings .largest) (a .length)) (a .bench .now) (a .bench .«b_free»)) (c .before .before .before .before .past .ensures) ∙
-    start-other-number (a .watch) m (c .before .before .before .before .before .before .before .before .before .before .before .pre) (a .length)))
+    start-other-number (a .watch) m lent (a .length)))
     (c .accepted .ensures .0)
     (c .accepted .ensures .1)
 

@@ -1,8 +1,8 @@
 -- `bench_steps::step::start_other_number` meets its contract. Assumes nothing.
 use Rattle.bench_steps.specs.Chains.{startOtherNumber}
 use Rattle.ground.proofs.Pick.{pick-yes, pick-no}
-use borrow.Author.Tests.{eq-eqb, ne-eqb, lt-ltb, le-ltb, le-leb, lt-leb}
-use mathlib.Core.Path.{sym, ap, _∙_}
+use borrow.Author.Tests.{lt-ltb, le-ltb}
+use mathlib.Core.Path.{sym, _∙_}
 use Rattle.bench_steps.proofs.step.start_other_number.Statement.{statement}
 use Rattle.bench_steps.proofs.step.start_other_number.Tie as tie
 

@@ -65,15 +65,23 @@ same-length c = search needs
 same-length-2 : tie.Need-same-length-2
 same-length-2 c = search needs
 
+returns : tie.Need-returns
+returns c =
+    let start = c .before .before .before .before .before .before .before .before .before .before .before .before in
+    let a = start .args in
+    answers-asked (sym (c .before .before .before .before .before .before .decode .ensures) ∙ c .before .before .before .before .asked .given .1) (c .wait-for .ensures (now (a .kinds)) (now (a .octets)) (start .pre))
+
 same-length-3 : tie.Need-same-length-3
 same-length-3 c = search needs
 
 same-length-4 : tie.Need-same-length-4
 same-length-4 c = search needs
 
-returns : tie.Need-returns
-returns c =
-    answers-asked (sym (c .before .before .before .before .before .before .before .before .before .before .before .before .before .before .before .before .decode .ensures) ∙ c .before .before .before .before .before .before .before .before .before .before .before .before .before .before .asked .given .1) (c .before .before .before .before .before .before .before .before .wait-for .ensures)
+returns-2 : tie.Need-returns-2
+returns-2 c =
+    let start = c .before .before .before .before .before .before .before .before .before .before .before .before .before .before .before .before in
+    let a = start .args in
+    answers-asked (sym (c .before .before .before .before .before .before .before .before .before .before .decode .ensures) ∙ c .before .before .before .before .before .before .before .before .asked2 .given .1) (c .before .before .before .before .start-data .ensures (now (a .pfc-ends)) (now (a .octets)) (start .pre))
 
 same-length-5 : tie.Need-same-length-5
 same-length-5 c = search needs
@@ -81,15 +89,29 @@ same-length-5 c = search needs
 same-length-6 : tie.Need-same-length-6
 same-length-6 c = search needs
 
+returns-3 : tie.Need-returns-3
+returns-3 c =
+    let start = c .before .before .before .before .before .before .before .before .before .before .before .before .before .before .before in
+    let a = start .args in
+    answers-asked (sym (c .before .before .before .before .before .before .before .before .before .decode .ensures) ∙ c .before .before .before .before .before .before .before .enum-told .given .1) (c .before .before .before .before .arrive .ensures (now (a .pfc-ends)) (now (a .octets)) (start .pre))
+
+returns-4 : tie.Need-returns-4
+returns-4 c =
+    let start = c .before .before .before .before .before .before .before .before .before .before in
+    let a = start .args in
+    answers-asked (sym (c .before .before .before .before .decode .ensures) ∙ c .before .before .asked3 .given .1) (c .start-other .ensures (now (a .ends)) (now (a .kinds)) (now (a .pfc-ends)) (now (a .octets)) (start .pre))
+
 same-length-7 : tie.Need-same-length-7
 same-length-7 c = search needs
 
 same-length-8 : tie.Need-same-length-8
 same-length-8 c = search needs
 
-returns-2 : tie.Need-returns-2
-returns-2 c =
-    answers-asked (sym (c .before .before .before .before .before .before .before .before .before .before .before .before .before .before .before .before .decode .ensures) ∙ c .before .before .before .before .before .before .before .before .before .before .before .before .before .before .asked2 .given .1) (c .before .before .before .before .before .before .before .before .start-data .ensures)
+returns-5 : tie.Need-returns-5
+returns-5 c =
+    let start = c .before .before .before .before .before .before .before .before .before .before .before .before .before .before .before in
+    let a = start .args in
+    answers-asked (sym (c .before .before .before .before .before .before .before .before .before .decode .ensures) ∙ c .before .before .before .before .before .before .before .enum-told2 .given .1) (c .before .before .before .before .start-pfc .ensures (now (a .ends)) (now (a .kinds)) (start .pre))
 
 same-length-9 : tie.Need-same-length-9
 same-length-9 c = search needs
@@ -97,79 +119,17 @@ same-length-9 c = search needs
 same-length-10 : tie.Need-same-length-10
 same-length-10 c = search needs
 
-same-length-11 : tie.Need-same-length-11
-same-length-11 c = search needs
-
-same-length-12 : tie.Need-same-length-12
-same-length-12 c = search needs
-
-returns-3 : tie.Need-returns-3
-returns-3 c =
-    answers-asked (sym (c .before .before .before .before .before .before .before .before .before .before .before .before .before .before .before .decode .ensures) ∙ c .before .before .before .before .before .before .before .before .before .before .before .before .before .enum-told .given .1) (c .before .before .before .before .before .before .before .before .arrive .ensures)
-
-same-length-13 : tie.Need-same-length-13
-same-length-13 c = search needs
-
-same-length-14 : tie.Need-same-length-14
-same-length-14 c = search needs
-
-same-length-15 : tie.Need-same-length-15
-same-length-15 c = search needs
-
-same-length-16 : tie.Need-same-length-16
-same-length-16 c = search needs
-
-returns-4 : tie.Need-returns-4
-returns-4 c =
-    answers-asked (sym (c .before .before .before .before .before .before .before .before .before .before .before .before .before .before .before .before .decode .ensures) ∙ c .before .before .before .before .before .before .before .before .before .before .before .before .before .before .asked3 .given .1) (c .before .before .before .before .before .before .before .before .start-other .ensures)
-
-same-length-17 : tie.Need-same-length-17
-same-length-17 c = search needs
-
-same-length-18 : tie.Need-same-length-18
-same-length-18 c = search needs
-
-same-length-19 : tie.Need-same-length-19
-same-length-19 c = search needs
-
-same-length-20 : tie.Need-same-length-20
-same-length-20 c = search needs
-
-returns-5 : tie.Need-returns-5
-returns-5 c =
-    answers-asked (sym (c .before .before .before .before .before .before .before .before .before .before .before .before .before .before .before .decode .ensures) ∙ c .before .before .before .before .before .before .before .before .before .before .before .before .before .enum-told2 .given .1) (c .before .before .before .before .before .before .before .before .start-pfc .ensures)
-
-same-length-21 : tie.Need-same-length-21
-same-length-21 c = search needs
-
-same-length-22 : tie.Need-same-length-22
-same-length-22 c = search needs
-
-same-length-23 : tie.Need-same-length-23
-same-length-23 c = search needs
-
-same-length-24 : tie.Need-same-length-24
-same-length-24 c = search needs
-
 returns-6 : tie.Need-returns-6
 returns-6 c =
-    answers-asked (sym (c .before .before .before .before .before .before .before .before .before .before .before .before .before .before .before .decode .ensures) ∙ c .before .before .before .before .before .before .before .before .before .before .before .before .before .enum-told3 .given .1) (c .before .before .before .before .before .before .before .before .take-effect .ensures)
-
-same-length-25 : tie.Need-same-length-25
-same-length-25 c = search needs
-
-same-length-26 : tie.Need-same-length-26
-same-length-26 c = search needs
-
-same-length-27 : tie.Need-same-length-27
-same-length-27 c = search needs
-
-same-length-28 : tie.Need-same-length-28
-same-length-28 c = search needs
+    let start = c .before .before .before .before .before .before .before .before .before .before .before .before .before .before .before in
+    let a = start .args in
+    answers-asked (sym (c .before .before .before .before .before .before .before .before .before .decode .ensures) ∙ c .before .before .before .before .before .before .before .enum-told3 .given .1) (c .before .before .before .before .take-effect .ensures (now (a .ends)) (now (a .kinds)) (start .pre))
 
 returns-7 : tie.Need-returns-7
 returns-7 c =
-    answers-asked (sym (c .before .before .before .before .before .before .before .before .before .before .before .before .before .before .before .before .decode .ensures) ∙ c .before .before .before .before .before .before .before .before .before .before .before .before .before .before .asked4 .given .1) (c .before .before .before .before .before .before .before .before .take-octets .ensures)
+    let start = c .before .before .before .before .before .before .before .before .before .before in
+    let a = start .args in
+    answers-asked (sym (c .before .before .before .before .decode .ensures) ∙ c .before .before .asked4 .given .1) (c .take-octets .ensures (now (a .ends)) (now (a .kinds)) (now (a .pfc-ends)) (now (a .octets)) (start .pre))
 
 returns-8 : tie.Need-returns-8
 returns-8 c =
@@ -201,37 +161,19 @@ step-lent-spec =
     refused-requires
     same-length
     same-length-2
+    returns
     same-length-3
     same-length-4
-    returns
+    returns-2
     same-length-5
     same-length-6
+    returns-3
+    returns-4
     same-length-7
     same-length-8
-    returns-2
+    returns-5
     same-length-9
     same-length-10
-    same-length-11
-    same-length-12
-    returns-3
-    same-length-13
-    same-length-14
-    same-length-15
-    same-length-16
-    returns-4
-    same-length-17
-    same-length-18
-    same-length-19
-    same-length-20
-    returns-5
-    same-length-21
-    same-length-22
-    same-length-23
-    same-length-24
     returns-6
-    same-length-25
-    same-length-26
-    same-length-27
-    same-length-28
     returns-7
     returns-8)

@@ -1,13 +1,9 @@
 -- `bench_steps::step::take_octets` meets its contract. Assumes nothing.
 use Rattle.bench_steps.proofs.Answered.{told-refused, take-octets-number, take-octets-recorder, take-octets-answers}
 use Rattle.records.specs.declared.Record.the-variants as record'
-use Rattle.bench_steps.specs.Answers.{memoryOf, Lent}
-use denote.Ref.{now}
-use native.Mathlib.Omega.{arith}
-use mathlib.Core.List.{List}
-use mathlib.Core.Bool.{Bool, true, false}
-use mathlib.Core.Path.{_≡_, refl, sym, ap, _∙_}
-use Prim.Native.Nat.{ℕ, _+_, _*_, _-_, _≤_}
+use Rattle.bench_steps.specs.Answers.{memoryOf}
+use mathlib.Core.Path.{sym, _∙_}
+use Prim.Native.Nat.{_-_}
 use borrow.Author.Needs.{needs}
 use Rattle.bench_steps.proofs.step.take_octets.Statement.{statement}
 use Rattle.bench_steps.proofs.step.take_octets.Tie as tie
@@ -19,11 +15,11 @@ refused-requires : tie.Need-refused-requires
 refused-requires c κs = search needs
 
 returns : tie.Need-returns
-returns c =
-    let a = c .before .before .before .before .before .before .before .before .before .args in
-    let m = memoryOf (a .bench) (now (a .ends)) (now (a .kinds)) (now (a .pfc-ends)) (now (a .octets)) in
-    told-refused (a .watch) m (record'.TakeOctets (a .priority) (a .count)) (c .before .before .before .taken .result .refusal) _ _ (c .before .before .before .before .before .before .before .before .before .pre)
-    (take-octets-number (a .watch) m (c .before .before .before .before .before .before .before .before .before .pre) (a .priority) (a .count) _ (c .before .before .before .taken .ensures))
+returns c dataEnds dataKinds pfcEnds pfcOctets lent =
+    let a = c .before .before .before .before .before .args in
+    let m = memoryOf (a .bench) dataEnds dataKinds pfcEnds pfcOctets in
+    told-refused (a .watch) m (record'.TakeOctets (a .priority) (a .count)) (c .before .before .before .taken .result .refusal) _ _ lent
+    (take-octets-number (a .watch) m lent (a .priority) (a .count) _ (c .before .before .before .taken .ensures))
     (c .before .if1 .taken)
     (c .refused .ensures .0)
     (c .refused .ensures .1)
@@ -32,13 +28,12 @@ accepted-requires : tie.Need-accepted-requires
 accepted-requires c κs = search needs
 
 returns-2 : tie.Need-returns-2
-returns-2 c =
-    let start = c .before .before .before .before .before .before .before .before .before .before in
-    let a = start .args in
-    let m = memoryOf (a .bench) (now (a .ends)) (now (a .kinds)) (now (a .pfc-ends)) (now (a .octets)) in
-    take-octets-answers (a .watch) m (start .pre) (a .priority) (a .count) _ _ _
-    (take-octets-recorder (a .watch) m (start .pre) (a .priority) (a .count) _ (c .before .before .before .before .taken .ensures) (c .before .before .if1 .left))
-    (sym (c .before .before .if1 .left) ∙ (take-octets-number (a .watch) m (start .pre) (a .priority) (a .count) _ (c .before .before .before .before .taken .ensures)))
+returns-2 c dataEnds dataKinds pfcEnds pfcOctets lent =
+    let a = c .before .before .before .before .before .before .args in
+    let m = memoryOf (a .bench) dataEnds dataKinds pfcEnds pfcOctets in
+    take-octets-answers (a .watch) m lent (a .priority) (a .count) _ _ _
+    (take-octets-recorder (a .watch) m lent (a .priority) (a .count) _ (c .before .before .before .before .taken .ensures) (c .before .before .if1 .left))
+    (sym (c .before .before .if1 .left) ∙ (take-octets-number (a .watch) m lent (a .priority) (a .count) _ (c .before .before .before .before .taken .ensures)))
     (c .accepted .ensures .0)
     (c .accepted .ensures .1)
 

@@ -15,11 +15,10 @@ refused-requires : tie.Need-refused-requires
 refused-requires c κs = search needs
 
 returns : tie.Need-returns
-returns c =
-    let start = c .before .before .before .before .before .before .before in
-    let a = start .args in
-    let m = memoryOf (a .bench) (now (a .ends)) (now (a .kinds)) (now (a .pfc-ends)) (now (a .octets)) in
-    told-refused (a .watch) m (Wait (a .n)) 41 _ _ (start .pre) (wait-41 (a .watch) m (start .pre) (a .n) (omega arith)) (λ e. omega arith) (c .refused .ensures .0) (c .refused .ensures .1)
+returns c dataKinds pfcOctets lent =
+    let a = c .before .before .before .before .before .args in
+    let m = memoryOf (a .bench) (now (a .ends)) dataKinds (now (a .pfc-ends)) pfcOctets in
+    told-refused (a .watch) m (Wait (a .n)) 41 _ _ lent (wait-41 (a .watch) m lent (a .n) (omega arith)) (λ e. omega arith) (c .refused .ensures .0) (c .refused .ensures .1)
 
 walk-from-requires : tie.Need-walk-from-requires
 walk-from-requires c κs = search needs
@@ -33,19 +32,13 @@ after-walk-requires c κs = search needs
 whole-or-none-requires : tie.Need-whole-or-none-requires
 whole-or-none-requires c κs = search needs
 
-same-length : tie.Need-same-length
-same-length c = search needs
-
-same-length-2 : tie.Need-same-length-2
-same-length-2 c = search needs
-
 returns-2 : tie.Need-returns-2
-returns-2 c =
-    let a = c .before .before .before .before .before .before .before .before .before .before .before .before .args in
-    let m = memoryOf (a .bench) (now (a .ends)) (now (a .kinds)) (now (a .pfc-ends)) (now (a .octets)) in
-    wait-answers (a .watch) m (c .before .before .before .before .before .before .before .before .before .before .before .before .pre) (a .n) _ _ _ _ _
-    (omega (arith, c .before .before .before .before .before .before .before .sum .ensures, c .before .before .before .before .before .before .if1 .left))
-    (c .before .before .before .before .before .walk-from .ensures)
+returns-2 c dataKinds pfcOctets lent =
+    let a = c .before .before .before .before .before .before .before .before .args in
+    let m = memoryOf (a .bench) (now (a .ends)) dataKinds (now (a .pfc-ends)) pfcOctets in
+    wait-answers (a .watch) m lent (a .n) _ _ _ _ _
+    (omega (arith, c .before .before .before .before .before .sum .ensures, c .before .before .before .before .if1 .left))
+    (c .before .before .before .walk-from .ensures)
     (c .before .before .late-after .ensures)
     (c .before .after-walk .ensures)
     (c .whole-or-none .ensures .0)
@@ -62,6 +55,4 @@ wait-for-spec =
     late-after-requires
     after-walk-requires
     whole-or-none-requires
-    same-length
-    same-length-2
     returns-2)

@@ -12,10 +12,14 @@ accepted-requires : tie.Need-accepted-requires
 accepted-requires c κs = search needs
 
 returns : tie.Need-returns
-returns c = (c .refused .ensures .0 ∙ sym (pick-yes 40 0 (c .before .if1 .taken)), c .refused .ensures .1 ∙ sym (pick-yes _ _ (c .before .if1 .taken)))
+returns c =
+    let a = c .before .before .args in
+    (c .refused .ensures .0 ∙ sym (pick-yes 40 0 (c .before .if1 .taken)), c .refused .ensures .1 ∙ sym (pick-yes (a .before) (a .after) (c .before .if1 .taken)))
 
 returns-2 : tie.Need-returns-2
-returns-2 c = (c .accepted .ensures .0 ∙ sym (pick-no 40 0 (c .before .if1 .left)), c .accepted .ensures .1 ∙ sym (pick-no _ _ (c .before .if1 .left)))
+returns-2 c =
+    let a = c .before .before .args in
+    (c .accepted .ensures .0 ∙ sym (pick-no 40 0 (c .before .if1 .left)), c .accepted .ensures .1 ∙ sym (pick-no (a .before) (a .after) (c .before .if1 .left)))
 
 pub whole-or-none-spec : {M : Type 1} → statement M
 whole-or-none-spec = tie.close (tie.spec refused-requires accepted-requires returns returns-2)

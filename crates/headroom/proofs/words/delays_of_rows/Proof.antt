@@ -1,7 +1,5 @@
 -- `headroom::words::delays_of_rows` meets its contract: the part from octet 5 on is what follows `rows:`. Assumes nothing.
-use mathlib.Core.Path.{_∙_, sym, ap}
-use mathlib.Core.List.{map}
-use native.Mathlib.Omega.{arith}
+use mathlib.Core.Path.{_∙_}
 use Rattle.ground.specs.Pick.{pick}
 use Rattle.ground.proofs.Tests.{tests}
 use Rattle.headroom.specs.Words.{rowsAnswer}

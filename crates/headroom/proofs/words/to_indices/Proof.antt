@@ -1,6 +1,5 @@
 -- `headroom::words::to_indices` meets its contract: `Indexing` holds at each octet, and what is left of the word falls. Assumes nothing.
 use Prim.Native.Nat.{_-_}
-use native.Mathlib.Omega.{arith}
 use borrow.Author.Needs.{needs}
 use lib.ListN.{length}
 use Rattle.headroom.proofs.Reading.{Indexing, index-start, index-next, index-ends}
