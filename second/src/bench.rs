@@ -304,6 +304,8 @@ impl Bench {
         let mut due_since = self.recorder.due_since();
         let mut bound = self.bound(due_since);
         let mut refresh_moment = self.refresh_moment(end);
+        // Up to here neither the refresh nor the bound is felt; I is at least 1, so is the moment.
+        let mut quiet_until = bound.min(OctetTimes(refresh_moment.0 - 1));
         let mut head = self.head;
         let mut now = self.time;
         while now < end {
@@ -311,10 +313,14 @@ impl Bench {
             if now.ends_a_quantum() {
                 head.pass(Quanta(1));
             }
+            if now <= quiet_until {
+                continue;
+            }
             if now >= refresh_moment {
                 due_since = Some(now);
                 refresh_moment = NEVER;
                 bound = self.bound_from_refresh(due_since, bound);
+                quiet_until = bound;
             }
             if now > bound {
                 return Err(Refusal::BoundOverrun);
@@ -332,12 +338,13 @@ impl Bench {
 
     /// Time may reach this moment, but not pass it in the state as it is, PFC due since then.
     fn bound(&self, due_since: Option<OctetTimes>) -> OctetTimes {
-        let start_bound = due_since.map(|due| due + self.delays.generation + self.delays.wire);
-        // A bound that is not there stands at NEVER before any two are compared.
+        // What is not there stands at NEVER before any two are compared. A row of `Option`s compiles
+        // to jumps on what was never set, which valgrind reports though no answer hangs on it.
         let data_bound = self.data.oldest_bound().unwrap_or(NEVER);
         let request_bound = self.requests.oldest_bound().unwrap_or(NEVER);
-        let start_bound = start_bound.unwrap_or(NEVER);
-        let earliest = data_bound.min(request_bound).min(start_bound);
+        let due_bound =
+            due_since.map_or(NEVER, |due| due + self.delays.generation + self.delays.wire);
+        let earliest = data_bound.min(request_bound).min(due_bound);
         OctetTimes(earliest.0 - u64::from(slipped(Slip::BoundsExclusive)))
     }
 
