@@ -45,23 +45,25 @@ pub record Answers (w : Watch) (m : Memory) (asked : Record) (number : ℕ) (the
   pub memory-is : then ≡ memoryFor w m asked
   pub lent : Lent then
 
--- what a step answers that changes no array, whatever they hold; one that looks at two; one that changes those of the data frames; those
--- of the PFC frames
+-- what a step answers, from arrays before it to arrays after it
+abbrev pub AnswersOver : Watch → Bench → Record → Stepped → (dataEnds dataKinds pfcEnds pfcOctets : List ℕ) → (endsThen kindsThen pfcEndsThen octetsThen : List ℕ) → Type 0
+AnswersOver w bench asked said dataEnds dataKinds pfcEnds pfcOctets endsThen kindsThen pfcEndsThen octetsThen =
+    Lent (memoryOf bench dataEnds dataKinds pfcEnds pfcOctets) → Answers w (memoryOf bench dataEnds dataKinds pfcEnds pfcOctets) asked (said .refusal) (memoryOf (said .bench) endsThen kindsThen pfcEndsThen octetsThen)
+
+-- of a step that has no array: all stay, whatever they hold
 abbrev pub AnswersAlone : Watch → Bench → Record → Stepped → Type 0
-AnswersAlone w bench asked said =
-    (dataEnds dataKinds pfcEnds pfcOctets : List ℕ) → Lent (memoryOf bench dataEnds dataKinds pfcEnds pfcOctets) → Answers w (memoryOf bench dataEnds dataKinds pfcEnds pfcOctets) asked (said .refusal) (memoryOf (said .bench) dataEnds dataKinds pfcEnds pfcOctets)
+AnswersAlone w bench asked said = (e k p o : List ℕ) → AnswersOver w bench asked said e k p o e k p o
 
+-- of one that looks at the ends alone
 abbrev pub AnswersBeside : Watch → Bench → List ℕ → List ℕ → Record → Stepped → Type 0
-AnswersBeside w bench dataEnds pfcEnds asked said =
-    (dataKinds pfcOctets : List ℕ) → Lent (memoryOf bench dataEnds dataKinds pfcEnds pfcOctets) → Answers w (memoryOf bench dataEnds dataKinds pfcEnds pfcOctets) asked (said .refusal) (memoryOf (said .bench) dataEnds dataKinds pfcEnds pfcOctets)
+AnswersBeside w bench e p asked said = (k o : List ℕ) → AnswersOver w bench asked said e k p o e k p o
 
+-- of one that has the data frames' arrays, and of one that has the PFC frames'
 abbrev pub AnswersWithData : Watch → Bench → List ℕ → List ℕ → Record → Stepped → List ℕ → List ℕ → Type 0
-AnswersWithData w bench dataEnds dataKinds asked said endsThen kindsThen =
-    (pfcEnds pfcOctets : List ℕ) → Lent (memoryOf bench dataEnds dataKinds pfcEnds pfcOctets) → Answers w (memoryOf bench dataEnds dataKinds pfcEnds pfcOctets) asked (said .refusal) (memoryOf (said .bench) endsThen kindsThen pfcEnds pfcOctets)
+AnswersWithData w bench e k asked said e' k' = (p o : List ℕ) → AnswersOver w bench asked said e k p o e' k' p o
 
 abbrev pub AnswersWithPfc : Watch → Bench → List ℕ → List ℕ → Record → Stepped → List ℕ → List ℕ → Type 0
-AnswersWithPfc w bench pfcEnds pfcOctets asked said endsThen octetsThen =
-    (dataEnds dataKinds : List ℕ) → Lent (memoryOf bench dataEnds dataKinds pfcEnds pfcOctets) → Answers w (memoryOf bench dataEnds dataKinds pfcEnds pfcOctets) asked (said .refusal) (memoryOf (said .bench) dataEnds dataKinds endsThen octetsThen)
+AnswersWithPfc w bench p o asked said p' o' = (e k : List ℕ) → AnswersOver w bench asked said e k p o e k p' o'
 
 -- as many frames as the arrays can hold, where a state says more
 abbrev pub clampedBench : Bench → Bench

@@ -17,7 +17,7 @@ use Rattle.bench_steps.specs.declared.wait.Walk.{Walk}
 unfoldable pub headAt : Head → ℕ → Head
 headAt head now = pick (eqb (now % 64) 0) (afterQuanta head 1) head
 
--- whether the refresh has made PFC due: it does "when time reaches" its moment
+-- whether the refresh has made PFC due: it does once time has reached its moment, "even inside a step"
 unfoldable pub fellAt : Bool → ℕ → ℕ → Bool
 fellAt fell refresh now = pick (eqb now refresh) true fell
 
@@ -49,7 +49,7 @@ refreshAhead refresh (At first) = 2 ^ 64 - 1
 refreshAhead Never Never = 2 ^ 64 - 1
 refreshAhead (At moment) Never = moment
 
--- n octet times: as many quanta as there are multiples of 64 on the way; due by the refresh, if its moment is reached
+-- the same with the due moment, "dated from that moment": due by the refresh, if its moment is reached
 unfoldable pub walkedBy : Walk → Moment → ℕ → Walk
 walkedBy walk refresh n =
     record {
