@@ -13,6 +13,7 @@ use Rattle.bench_steps.specs.declared.state.Bench.{Bench}
 use Rattle.bench_steps.specs.declared.wait.Walk.{Walk}
 use Rattle.ground.specs.Pick.{pick}
 
+-- 33
 unfoldable pub lengthRefused : ℕ → ℕ → Bool
 lengthRefused largest length = pick (ltb length 64) true (ltb largest length)
 

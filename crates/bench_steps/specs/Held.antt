@@ -6,7 +6,7 @@ use Rattle.bench_steps.specs.State.{DataFrame, PfcFrame, State}
 use Rattle.bench_steps.specs.declared.state.Bench.{Bench}
 use Rattle.bench_steps.specs.declared.state.Memory.{Memory}
 
--- a data frame's priority and length as one number
+-- what kind of data frame it is: its priority and length as one number
 abbrev pub kindOf : ℕ → ℕ → ℕ
 kindOf priority length = priority * 65536 + length
 
@@ -70,6 +70,6 @@ holding m s =
       «pfc_octets» = over (octetsOf (s .pfcRow)) (m .«pfc_octets»);
     }
 
--- a list's places from the k-th on moved up by k, as many as said
+-- a list's places from the k-th on moved k places towards the front, as many as said
 abbrev pub shifted : ℕ → ℕ → List ℕ → List ℕ
 shifted k count list = take count (drop k list) ++ drop count list

@@ -27,7 +27,7 @@ use Rattle.bench_steps.specs.declared.run.Outcome.the-variants as outcom
 use Rattle.bench_steps.specs.declared.run.Report.{Report}
 use Rattle.bench_steps.specs.declared.state.Bench.{Bench}
 
--- "00: enabled 1, M 2, generation bits 4, request path bits 4, data path bits 4, T 2, I 4, hysteresis 4, rooms 8 × 4"
+-- kind 00: "enabled 1, M 2, generation bits 4, request path bits 4, data path bits 4, T 2, I 4, hysteresis 4, rooms 8 × 4"
 abbrev pub settingsIn : List ℕ → Settings
 settingsIn octets =
     record {
@@ -72,11 +72,13 @@ benchReport enabled b steps refusal at =
       timers = b .head .timers;
     }
 
+-- what goes by value at the start: "Time starts at 0, buffers empty."
 abbrev pub emptyBench : ℕ → Bench
 emptyBench enabled =
     record { now = 0; head = start enabled; recorder = fresh; «a_free» = 0; «b_free» = 0; «data_count» = 0; «pfc_count» = 0 }
 
--- "If the settings are refused or missing, or the input is too long, line 1 stands alone with steps 0 and time 0, at 0."
+-- "If the settings are refused or missing, or the input is too long, line 1 stands alone with steps 0 and time 0, at 0.": no priority is
+-- enabled, so that no other line follows
 abbrev pub refusedReport : ℕ → Report
 refusedReport number = benchReport 0 (emptyBench 0) 0 number 0
 
@@ -94,7 +96,8 @@ runFrom (suc fuel) w s steps (kind ∷ rest) =
 abbrev pub followOf : Watch → List ℕ → Report
 followOf w octets = runFrom (length octets) w (empty w) 0 octets
 
--- "44, 45: settings missing or repeated", "31: body cut short": the first record must be settings
+-- the first record must be settings: 44 "settings missing or repeated" where it is not, 31 "body cut short" under 58 octets, its kind and
+-- 57 more
 unfoldable pub firstRefusal : ℕ → ℕ → ℕ
 firstRefusal kind size = pick (ltb size 1) 44 (pick (eqb kind 0) (pick (ltb size 58) 31 0) 44)
 
@@ -107,10 +110,11 @@ unfoldable pub settledBy : Settling → List ℕ → Report
 settledBy (Refused number) input = refusedReport number
 settledBy (Accepted room) input = followOf (watchWith (settingsIn input) room) (drop 58 input)
 
+-- the settings of an input, tried, and what follows them
 abbrev pub settledOf : List ℕ → Report
 settledOf input = settledBy (settling (settingsIn input)) input
 
--- "45 .. input too long", before everything
+-- 45 "input too long", before everything
 unfoldable pub runOf : List ℕ → Report
 runOf input =
     pick (ltb 65536 (length input)) (refusedReport 45)

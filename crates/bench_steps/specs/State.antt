@@ -22,6 +22,7 @@ pub record State : Type 0 where
   pub now : ℕ
   pub head : Head
   pub recorder : Recorder
+  -- the moments from which A's and B's wire are free
   pub aFree : ℕ
   pub bFree : ℕ
   pub dataRow : List DataFrame

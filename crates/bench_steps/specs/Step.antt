@@ -68,7 +68,8 @@ overrun w s moment =
     (pick (pfcOverdue (w .kept .request .0) (s .pfcRow) moment) true
     (pastDue (dueThen w s moment) (w .kept .generation .0 + w .kept .wire .0) moment))
 
--- "A frame can arrive from the moment its wire time ends": 37 where none has
+-- "A frame can arrive from the moment its wire time ends": 37 where none has. Frames stand in the order of their starts, so that the wire
+-- time of the oldest ends first
 unfoldable pub noDataEnded : List DataFrame → ℕ → Bool
 noDataEnded [] now = true
 noDataEnded (oldest ∷ rest) now = ltb now (oldest .end)
@@ -144,7 +145,7 @@ pfcNow w s =
     }
 
 -- the state after each kind, where it is accepted
--- kind 01: "A quantum passes at A when time reaches each positive multiple of 64."
+-- kind 01: "A quantum passes at A when time reaches each positive multiple of 64.": as many as there are after now and up to now + n
 unfoldable pub waited : Watch → State → ℕ → State
 waited w s n =
     record {

@@ -17,7 +17,7 @@ use Rattle.bench_steps.specs.declared.wait.Walk.{Walk}
 unfoldable pub headAt : Head → ℕ → Head
 headAt head now = pick (eqb (now % 64) 0) (afterQuanta head 1) head
 
--- whether the refresh has made PFC due: it does once time has reached its moment, "even inside a step"
+-- whether the refresh has made PFC due: it does at its own moment, "even inside a step", and that stays
 unfoldable pub fellAt : Bool → ℕ → ℕ → Bool
 fellAt fell refresh now = pick (eqb now refresh) true fell
 

@@ -9,7 +9,7 @@ use Rattle.frame.specs.Layout.{octetAt, wordOctets}
 use Rattle.frame.specs.declared.Built.{Built}
 use Rattle.frame.specs.declared.Built.the-variants.{Written, Refused}
 
--- "refusals 5, 6 in that order": "control buffer under 60 octets; source has the group bit"
+-- "Order: building 5, 6": "control buffer under 60 octets; source has the group bit"
 unfoldable pub buildVerdict : ℕ → List ℕ → Built
 buildVerdict size source = pick (ltb size 60) (Refused 5) (pick (eqb (octetAt source 0 % 2) 1) (Refused 6) Written)
 

@@ -11,7 +11,7 @@ use Rattle.head.specs.Timers.{afterQuanta, afterRequest, isPaused, timer
 abbrev pub headAt : ℕ → Head
 headAt value = record { enabled = 255; timers = eight (λ n. value); indications = 0 }
 
--- a request with one time for priority 3, enable vector 08
+-- a request with all eight times alike, enable vector 08: it names priority 3 alone
 abbrev pub asking : Head → ℕ → Head
 asking head time = afterRequest head 8 (eight (λ n. time))
 

@@ -46,27 +46,27 @@ oneWay largest generation request = octetsOfBits generation + wireTime largest +
 abbrev pub headroom : ℕ → ℕ → ℕ → ℕ → ℕ
 headroom largest generation request «data» = oneWay largest generation request + wireTime largest + octetsOfBits «data»
 
--- "10 .. rate"
+-- 10 "rate": a number without a halt limit is no rate
 abbrev pub refused10 : ℕ → Bool
 refused10 rate = eqb (haltLimit rate) 0
 
--- "11 .. metres above 100,000"
+-- 11 "metres above 100,000"
 abbrev pub refused11 : ℕ → Bool
 refused11 metres = ltb 100000 metres
 
--- "12 .. percentage outside 40-100"
+-- 12 "percentage outside 40-100"
 abbrev pub refused12 : ℕ → Bool
 refused12 percentage = pick (ltb percentage 40) true (ltb 100 percentage)
 
--- "13: M outside 64-9,216"
+-- 13 "M outside 64-9,216"
 abbrev pub refused13 : ℕ → Bool
 refused13 largest = pick (ltb largest 64) true (ltb 9216 largest)
 
--- "14: a generation or station delay above 1,048,576 bits"
+-- 14 "a generation or station delay above 1,048,576 bits"
 abbrev pub delayOver : ℕ → Bool
 delayOver bits = ltb 1048576 bits
 
--- "14: .. a path above 134,217,728"
+-- 14 "a path above 134,217,728"
 abbrev pub pathOver : ℕ → Bool
 pathOver bits = ltb 134217728 bits
 
@@ -79,7 +79,7 @@ abbrev pub stationOver : ℕ → ℕ → ℕ → ℕ → Bool
 stationOver bTransmit bReceive aTransmit aReceive =
     pick (delayOver bTransmit) true (pick (delayOver bReceive) true (pick (delayOver aTransmit) true (delayOver aReceive)))
 
--- "19: halt delay above its rate's limit"
+-- 19 "halt delay above its rate's limit"
 abbrev pub refused19 : ℕ → ℕ → Bool
 refused19 rate halt = ltb (bitsOfQuanta (haltLimit rate)) halt
 

@@ -43,6 +43,7 @@ kept largest generation request «data» =
 abbrev pub keepingOf : ℕ → Kept → Keeping
 keepingOf number room = pick (eqb number 0) (Keeping.Room room) (Keeping.Refused number)
 
+-- what is to be kept, or the first refusal that holds
 unfoldable pub keeping : ℕ → ℕ → ℕ → ℕ → Keeping
 keeping largest generation request «data» =
     keepingOf (keepRefusal largest generation request «data») (kept largest generation request «data»)

@@ -61,6 +61,7 @@ items i =
 abbrev pub summedOf : ℕ → Items → Summed
 summedOf number whole = pick (eqb number 0) (Summed.Whole whole) (Summed.Refused number)
 
+-- the sum, or the first refusal that holds
 unfoldable pub summed : Inputs → Summed
 summed i = summedOf (sumRefusal i) (items i)
 
@@ -69,13 +70,13 @@ unfoldable pub sumNumberOf : Summed → ℕ
 sumNumberOf (Summed.Whole whole) = 0
 sumNumberOf (Summed.Refused number) = number
 
--- where the sum stands once 10, 11 and 12 were tried
+-- where the sum stands once 10, 11 and 12 were tried and none of them holds
 pub record BeforeDelays (i : Inputs) : Type 0 where
   pub rate : refused10 (i .rate) ≡ false
   pub metres : refused11 (i .metres) ≡ false
   pub percentage : refused12 (i .percentage) ≡ false
 
--- and once 13 and the station delays were tried too
+-- and once 13 and the station delays were tried too, and none of them holds
 pub record BeforePaths (i : Inputs) : Type 0 where
   pub link : BeforeDelays i
   pub largest : refused13 (i .largest) ≡ false

@@ -68,6 +68,7 @@ stackBits (index ∷ rest) = bitsAt index + stackBits rest
 unfoldable pub delaysOf : ℕ → Stacked
 delaysOf whole = pick (delayOver (receiveHalf whole)) (Stacked.Refused 14) (Stacked.Delays (bits (transmitHalf whole)) (bits (receiveHalf whole)))
 
--- a stack with an unknown row has no delay; any other has the halves of its rows' bits
+-- a stack with an unknown row has no delay; any other has the halves of its rows' bits (each row is even, so that these are
+-- also the sums of the rows' halves)
 unfoldable pub stackAnswer : List ℕ → Stacked
 stackAnswer rows = pick (allKnown rows) (delaysOf (stackBits rows)) Stacked.Unknown

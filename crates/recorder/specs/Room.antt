@@ -1,4 +1,5 @@
--- Document 01, "Room watching at B", for the set of priorities that share one room and one wanted mark (here a set of one).
+-- Document 01, "Room watching at B", for the set of priorities that share one room and one wanted mark. In
+-- document 01 each enabled priority has its own, a set of one; a later request joins them.
 use Prim.Native.Nat.{ℕ, _+_, _-_, max}
 use mathlib.Core.Bool.{Bool, true, false}
 use lib.Dec.{ltb, leb}

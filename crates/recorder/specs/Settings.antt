@@ -15,7 +15,7 @@ use Rattle.recorder.specs.declared.settings.Settings.{Settings}
 use Rattle.recorder.specs.declared.settings.Settling.{Settling}
 use Rattle.recorder.specs.declared.settings.Settling.the-variants.{Accepted, Refused}
 
--- "bit 0 of the enabled octet is priority 0"; a number above 7 is no priority
+-- bit 0 of the enabled octet is priority 0; a number above 7 is no priority
 unfoldable pub isEnabled : ℕ → ℕ → Bool
 isEnabled enabled priority = pick (ltb priority 8) (isSet enabled priority) false
 

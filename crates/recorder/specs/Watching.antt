@@ -90,12 +90,13 @@ taking w r priority octets now =
 unfoldable pub someWanted : List Room → Bool
 someWanted rooms = some (eight (λ n. getD rooms n emptyRoom .wanted))
 
--- "at least I octet times (the refresh) have passed since the last PFC frame started": from that moment on
+-- "at least I octet times (the refresh) have passed since the last PFC frame started": the moment from which that holds, none where no PFC frame has started
 unfoldable pub refreshFrom : Moment → ℕ → Moment
 refreshFrom Never refresh = Never
 refreshFrom (At started) refresh = At (within64 (started + refresh))
 
--- the moment of the refresh, while some priority is wanted
+-- the moment of the refresh, while some priority is wanted (no mark changes inside a wait, so that what is wanted where it begins is
+-- wanted at that moment)
 unfoldable pub refreshOf : Watch → Recorder → Moment
 refreshOf w r = pick (someWanted (r .rooms)) (refreshFrom (r .last) (w .settings .refresh .0)) Never
 

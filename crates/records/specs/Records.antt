@@ -17,7 +17,7 @@ bodyLength kind =
 abbrev pub recordLength : ℕ → ℕ
 recordLength kind = 1 + bodyLength kind
 
--- what a whole record of kind 01 to 07 asks
+-- what a whole record of kind 01 to 07 asks (looked at only where 44 and 30 do not hold)
 unfoldable pub bodyOf : ℕ → List ℕ → Record
 bodyOf kind octets =
     pick (eqb kind 1) (Wait (wordAt octets 1))
@@ -28,7 +28,8 @@ bodyOf kind octets =
     (pick (eqb kind 6) TakeEffect
     (TakeOctets (octetAt octets 1) (wordAt octets 2)))))))
 
--- "Records 45, 44, 30, 31": after the settings, 44 for settings repeated, 30 for a kind above 07, 31 for a body cut short
+-- "Records 45, 44, 30, 31": after the settings, 44 for settings repeated, 30 for a kind above 07, 31 for a body cut short; 31 also for no
+-- octets at all, which no run hands over
 unfoldable pub sizedRefusal : ℕ → ℕ → ℕ → ℕ
 sizedRefusal kind size whole = pick (ltb size 1) 31 (pick (eqb kind 0) 44 (pick (ltb 7 kind) 30 (pick (ltb size whole) 31 0)))
 

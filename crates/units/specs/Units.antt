@@ -21,6 +21,6 @@ octetsOfBits bits = (bits + 7) / 8
 abbrev pub quantaOfBits : ℕ → ℕ
 quantaOfBits bits = (bits + 511) / 512
 
--- a count as a 64-bit number holds it: past the largest, the largest
+-- a count as a 64-bit number holds it: past the largest, the largest (with accepted settings and time up to 2^40 nothing reaches it)
 abbrev pub within64 : ℕ → ℕ
 within64 count = min count (2 ^ 64 - 1)
