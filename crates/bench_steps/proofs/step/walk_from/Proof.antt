@@ -2,7 +2,7 @@
 use Rattle.bench_steps.proofs.Walking.{walkOf}
 use Rattle.bench_steps.specs.Walk.{walkedBy, walkFrom}
 use Rattle.recorder.specs.declared.watch.Moment.{Moment}
-use mathlib.Core.Path.{ap, _∙_}
+use mathlib.Core.Path.{_≡_, ap, _∙_}
 use borrow.Author.Needs.{needs}
 use Rattle.bench_steps.proofs.step.walk_from.Statement.{statement}
 use Rattle.bench_steps.proofs.step.walk_from.Tie as tie
@@ -17,7 +17,9 @@ returns : tie.Need-returns
 unfolding walkFrom
 returns c =
     let a = c .before .before .before .before .args in
-    c .walked .ensures ∙ ap (λ (m : Moment). walkedBy (walkOf (a .bench .now) (a .bench .head) (a .bench .recorder .due)) m (a .n)) (c .before .refresh-of .ensures)
+    let from = walkOf (a .bench .now) (a .bench .head) (a .bench .recorder .due) in
+    let whole : c .walked .result ≡ walkedBy from (c .before .refresh-of .result) (a .n) = c .walked .ensures in
+    whole ∙ ap (λ (m : Moment). walkedBy from m (a .n)) (c .before .refresh-of .ensures)
 
 pub walk-from-spec : {M : Type 1} → statement M
 walk-from-spec = tie.close (tie.spec refresh-of-requires walked-requires returns)
