@@ -1,53 +1,72 @@
-// The bench: reads records on standard input, runs them and prints the report in document 01's form, and does nothing else.
-use bench_steps::run::Report;
-use libc::STDIN_FILENO;
+// The bench: reads records on standard input, runs them and prints the report in document 01's form; what a refusal means is said on standard
+// error. Where the input cannot be read there is no report, and where it cannot be written that is said.
+mod meaning;
+
+use bench_meaning::Report;
+use page::Page;
 ghost use Prim.Native.Nat.{_<_};
-use libc::STDOUT_FILENO;
-use recorder::room::Room;
 
-fn number(word: &[u8], n: u64) {
-    io::write_all(STDOUT_FILENO, word);
-    io::print_decimal(STDOUT_FILENO, n);
+fn number(page: Page, word: &[u8], n: u64) -> Page {
+    page::number(page::put(page, word), n)
 }
 
-fn first_line(report: Report) {
-    number(b"steps ", report.steps);
-    number(b" time ", report.time);
-    number(b" refusal ", report.refusal as u64);
-    number(b" at ", report.at);
-    io::write_all(STDOUT_FILENO, b"\n");
+fn first_line(page: Page, report: Report) -> Page {
+    let page = number(page, b"steps ", report.steps);
+    let page = number(page, b" time ", report.time.0);
+    let page = number(page, b" refusal ", report.refusal as u64);
+    let page = number(page, b" at ", report.at);
+    page::put(page, b"\n")
 }
 
-fn room_line(priority: u64, room: Room, timer: u16) {
-    number(b"", priority);
-    number(b" held ", room.held);
-    number(b" dropped ", room.dropped);
-    number(b" worst ", room.worst);
-    number(b" paused ", timer as u64);
-    io::write_all(STDOUT_FILENO, b"\n");
+// The line of a priority: what its room holds, what it dropped, the worst of it, and A's timer.
+fn room_line(page: Page, priority: u64, held: u64, dropped: u64, worst: u64, timer: u16) -> Page {
+    let page = number(page, b"", priority);
+    let page = number(page, b" held ", held);
+    let page = number(page, b" dropped ", dropped);
+    let page = number(page, b" worst ", worst);
+    let page = number(page, b" paused ", timer as u64);
+    page::put(page, b"\n")
 }
 
-// The line of a priority below 8, if it is enabled.
-fn line_of(report: Report, priority: usize)
+// The page with the line of a priority below 8, if it is enabled.
+fn line_of(page: Page, report: Report, priority: usize) -> Page
     requires { ⌜ priority < 8 ⌝ }
 {
-    if recorder::settings::is_enabled(report.enabled, priority as u8) {
-        let rooms = report.rooms;
+    if settings::is_enabled(report.enabled, priority as u8) {
+        let held = report.held;
+        let dropped = report.dropped;
+        let worst = report.worst;
         let timers = report.timers;
-        room_line(priority as u64, rooms[priority], timers[priority]);
+        return room_line(
+            page,
+            priority as u64,
+            held[priority],
+            dropped[priority],
+            worst[priority],
+            timers[priority],
+        );
     }
+    page
 }
 
-fn print_report(report: Report) {
-    first_line(report);
-    line_of(report, 0);
-    line_of(report, 1);
-    line_of(report, 2);
-    line_of(report, 3);
-    line_of(report, 4);
-    line_of(report, 5);
-    line_of(report, 6);
-    line_of(report, 7);
+fn report_on(page: Page, report: Report) -> Page {
+    let page = first_line(page, report);
+    let page = line_of(page, report, 0);
+    let page = line_of(page, report, 1);
+    let page = line_of(page, report, 2);
+    let page = line_of(page, report, 3);
+    let page = line_of(page, report, 4);
+    let page = line_of(page, report, 5);
+    let page = line_of(page, report, 6);
+    line_of(page, report, 7)
+}
+
+// Runs the records and prints the report, then says what its refusal means.
+fn answer(input: &[u8]) {
+    let report = bench_run::run(input);
+    if console::output::write_page(b"bench", report_on(page::blank(), report)) {
+        meaning::tell(report.refusal, report.at, input);
+    }
 }
 
 // One octet more than a run takes, so that a longer input is seen to be too long.
@@ -57,6 +76,9 @@ fn buffer() -> [u8; 65_537] {
 
 fn main() {
     let mut input = buffer();
-    let n = io::read_full(STDIN_FILENO, &mut input);
-    print_report(bench_steps::run::run(&input[..n]));
+    let reading = console::input::read_whole(b"bench", &mut input);
+    if reading.is_whole {
+        let n = reading.count;
+        answer(&input[..n]);
+    }
 }

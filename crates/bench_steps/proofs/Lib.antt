@@ -1,12 +1,7 @@
--- Laws about the bench's definitions.
+-- Laws of the steps.
 pub mod Answered
-pub mod DataHeld
 pub mod Decided
-pub mod Moments
-pub mod Over
-pub mod PfcHeld
-pub mod Running
-pub mod Shifting
+pub mod Places
 pub mod Stepping
-pub mod Viewed
-pub mod Walking
+pub mod Told
+pub mod WaitLaws

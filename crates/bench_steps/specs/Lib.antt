@@ -1,10 +1,5 @@
--- What the bench's contracts cite. What the bench means stands in State, Step and Run, which read like document 01 (the records' octets
--- in crate `records`). Held and Answers say how arrays hold such a state. Chains and Walk only stand between functions of this crate:
--- what they say is tied to Step by proof, and nobody has to believe it.
+-- What the steps' contracts cite. What a reader has to believe is Memory (how arrays hold a state) and the two last definitions of
+-- Answers, by which the public step is promised; the rest of Answers and Waits only stand between functions of this crate.
 pub mod Answers
-pub mod Chains
-pub mod Held
-pub mod Run
-pub mod State
-pub mod Step
-pub mod Walk
+pub mod Memory
+pub mod Waits

@@ -41,7 +41,7 @@ fn read(slots: &[u8], at: usize, largest: u64, own: [u8; 6]) -> u64
     requires { ⌜ at + 128 ≤ length (now slots) ⌝ }
 {
     let start = at + 2;
-    let end = start + size(records::word_at(slots, at));
+    let end = start + size(octets::word_at(slots, at));
     verdict(frame::read(&slots[start..end], largest, own))
 }
 
@@ -82,7 +82,7 @@ pub(crate) fn reading(material: &[u8], turns: u64) -> u64 {
     ];
     read_all(
         &material[8..],
-        records::word_at(material, 0) as u64,
+        octets::word_at(material, 0) as u64,
         own,
         turns,
     )
@@ -91,10 +91,10 @@ pub(crate) fn reading(material: &[u8], turns: u64) -> u64 {
 // A frame is built with what the turn gives.
 fn build(buffer: &mut [u8], turn: u64) -> u64 {
     let source = [0x02, 0x00, 0x00, 0x00, 0x00, 0x0B];
-    let answer = frame::build(buffer, source, (turn % 256) as u8, turns::times(turn));
+    let answer = frame_build::build(buffer, source, (turn % 256) as u8, turns::times(turn));
     match answer {
-        frame::Built::Written => records::octet_at(buffer, (turn % 64) as usize) as u64,
-        frame::Built::Refused(number) => number as u64,
+        frame_build::Built::Written => octets::octet_at(buffer, (turn % 64) as usize) as u64,
+        frame_build::Built::Refused(number) => number as u64,
     }
 }
 

@@ -1,12 +1,10 @@
 // Does one piece of work turn after turn and prints a sum over the answers, as docs/FIGURES.md says, so that what the libraries cost can
-// be measured from outside. Nothing is proved of the sum but that working it out is safe and ends.
+// be measured from outside. Nothing is proved of the sum but that working it out is safe and ends. Where the input cannot be read there is
+// no sum, and that is said on standard error.
 mod frames;
-mod rooms;
+mod recording;
 mod station;
 mod turns;
-
-use libc::STDIN_FILENO;
-use libc::STDOUT_FILENO;
 
 // The sum over the answers of the work that is asked.
 fn sum_of(what: u8, turns: u64, material: &[u8]) -> u64 {
@@ -17,7 +15,7 @@ fn sum_of(what: u8, turns: u64, material: &[u8]) -> u64 {
         0x04 => station::timers(what, turns),
         0x05 => station::timers(what, turns),
         0x06 => station::choices(turns),
-        0x07 => rooms::watching(turns),
+        0x07 => recording::watching(turns),
         _ => 0,
     }
 }
@@ -33,9 +31,17 @@ fn buffer() -> [u8; 65_536] {
     [0u8; 65_536]
 }
 
+// Prints the sum on a line.
+fn answer(file: &[u8]) {
+    let page = page::number(page::blank(), asked(file));
+    console::output::write_page(b"figures", page::put(page, b"\n"));
+}
+
 fn main() {
     let mut file = buffer();
-    let n = io::read_full(STDIN_FILENO, &mut file);
-    io::print_decimal(STDOUT_FILENO, asked(&file[..n]));
-    io::write_all(STDOUT_FILENO, b"\n");
+    let reading = console::input::read_whole(b"figures", &mut file);
+    if reading.is_whole {
+        let n = reading.count;
+        answer(&file[..n]);
+    }
 }

@@ -1,9 +1,8 @@
 // Station A: quanta that pass, requests that are taken, and the choice.
 use crate::turns;
-use head::Choice;
+use choice::Choice;
 use head::Head;
 use units::Quanta;
-ghost use Prim.Native.Nat.{_≤_};
 
 // The timer of the priority that a turn looks at.
 fn timer_of(head: Head, turn: u64) -> u64 {
@@ -47,36 +46,23 @@ pub(crate) fn timers(what: u8, turns: u64) -> u64 {
     turns::add(sum, head.indications as u64)
 }
 
-// The head of a class: its own number as a priority where the bit of this value is one, else none.
-fn present(turn: u64, value: u64, class: u8) -> u8
-    requires { ⌜ 1 ≤ value ⌝ }
-{
-    if turn / value % 2 == 1 { class } else { 8 }
+// The front of a class: its own number as a priority, or none.
+fn front(present: bool, class: u8) -> u8 {
+    if present { class } else { 8 }
 }
 
-fn heads(turn: u64) -> [u8; 8] {
+// The front of each class, present where its bit of the turn is one.
+fn fronts(turn: u64) -> [u8; 8] {
+    let present = octets::bits((turn % 256) as u8);
     [
-        present(turn, 1, 0),
-        present(turn, 2, 1),
-        present(turn, 4, 2),
-        present(turn, 8, 3),
-        present(turn, 16, 4),
-        present(turn, 32, 5),
-        present(turn, 64, 6),
-        present(turn, 128, 7),
-    ]
-}
-
-fn marks(o: u64) -> [bool; 8] {
-    [
-        o % 2 == 1,
-        o / 2 % 2 == 1,
-        o / 4 % 2 == 1,
-        o / 8 % 2 == 1,
-        o / 16 % 2 == 1,
-        o / 32 % 2 == 1,
-        o / 64 % 2 == 1,
-        o / 128 % 2 == 1,
+        front(present[0], 0),
+        front(present[1], 1),
+        front(present[2], 2),
+        front(present[3], 3),
+        front(present[4], 4),
+        front(present[5], 5),
+        front(present[6], 6),
+        front(present[7], 7),
     ]
 }
 
@@ -87,7 +73,7 @@ fn first_class(turn: u64) -> u8 {
 
 fn chosen(turn: u64) -> u64 {
     let map = [first_class(turn), 1, 2, 3, 4, 5, 6, 7];
-    let answer = head::choose(heads(turn), map, marks(turn / 256));
+    let answer = choice::choose(fronts(turn), map, octets::bits((turn / 256 % 256) as u8));
     match answer {
         Choice::Class(class) => 100 + class as u64,
         Choice::Nothing => 0,

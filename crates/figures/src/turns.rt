@@ -2,12 +2,7 @@
 
 // The count of turns of a figures file, its octets 1 to 8.
 pub(crate) fn count(file: &[u8]) -> u64 {
-    joined(records::long_at(file, 1), records::long_at(file, 5))
-}
-
-// Two numbers of four octets as one of eight.
-fn joined(high: u64, low: u64) -> u64 {
-    high % 4_294_967_296 * 4_294_967_296 + low % 4_294_967_296
+    octets::wide_at(file, 1)
 }
 
 // The sum goes on from 0 after the last value.

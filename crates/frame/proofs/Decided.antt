@@ -1,5 +1,5 @@
--- Any two answers that a contract of this crate permits for the same call are equal, and so are the octets lent to it. It is stated
--- about the contracts themselves, for every public function, and assumes nothing.
+-- Any two answers that a contract of this crate permits for the same call are equal. It is stated about the contracts themselves, for
+-- every public function, and assumes nothing.
 use mathlib.Core.Path.{_≡_, sym, _∙_}
 use contract.Lifetimes.{Lfts}
 use borrow.Fn.Kinds.{Dens, resT, endedOf}
@@ -12,8 +12,6 @@ use Rattle.frame.proofs.part.Kinds as part-kinds
 use Rattle.frame.proofs.part.Reads as part
 use Rattle.frame.proofs.times_of.Kinds as times-of-kinds
 use Rattle.frame.proofs.times_of.Reads as times-of
-use Rattle.frame.proofs.build.Kinds as build-kinds
-use Rattle.frame.proofs.build.Reads as build
 
 pub read-decides : Decides 1 read-kinds.ps read-kinds.r read.Post
 read-decides κs args x y e f p q = p ∙ sym q
@@ -22,12 +20,6 @@ pub times-of-decides : Decides 0 times-of-kinds.ps times-of-kinds.r times-of.Pos
 times-of-decides κs args x y e f p q = p ∙ sym q
 
 -- of a part handed back: the octets in it (that they are the caller's own is what its lifetime says)
-pub part-decides : (κs : Lfts 1) (args : Dens κs part-kinds.ps) (x y : resT part-kinds.r κs .Denot) (e f : AtExit (endedOf 1 part-kinds.ps part-kinds.r) κs) → part.Post κs args x e → part.Post κs args y f → now x ≡ now y
+pub part-decides : (κs : Lfts 1) (args : Dens κs part-kinds.ps) (x y : resT part-kinds.r κs .Denot) (e f : AtExit (endedOf 1 part-kinds.ps part-kinds.r) κs) →
+    part.Post κs args x e → part.Post κs args y f → now x ≡ now y
 part-decides κs args x y e f p q = p ∙ sym q
-
-pub build-decides : Decides 1 build-kinds.ps build-kinds.r build.Post
-build-decides κs args x y e f p q = p .0 ∙ sym (q .0)
-
--- and the buffer at exit
-pub build-decides-buffer : (κs : Lfts 1) (args : Dens κs build-kinds.ps) (x y : resT build-kinds.r κs .Denot) (e f : AtExit (endedOf 1 build-kinds.ps build-kinds.r) κs) → build.Post κs args x e → build.Post κs args y f → now (e .0) ≡ now (f .0)
-build-decides-buffer κs args x y e f p q = p .1 ∙ sym (q .1)

@@ -1,5 +1,3 @@
--- Laws and theorems about the frame's definitions.
-pub mod Building
+-- Laws about what a frame is read as.
 pub mod Decided
 pub mod Reading
-pub mod RoundTrip

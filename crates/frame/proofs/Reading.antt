@@ -8,7 +8,7 @@ use lib.Dec.{ltb, eqb}
 use lib.ListN.{length, drop, length-drop}
 use borrow.Author.Tests.{ltb-false, eqb-true}
 use Rattle.ground.specs.Pick.{pick}
-use Rattle.frame.specs.Layout.{addressAt}
+use Rattle.octets.specs.Numbers.{addressAt}
 use Rattle.frame.specs.Read.{sizeRefusal, wholeVerdict, verdict, partFor, partOf}
 use Rattle.frame.specs.declared.Request.{Request}
 use Rattle.frame.specs.declared.Verdict.{Verdict}
@@ -25,7 +25,8 @@ pub sized : (size M : ℕ) → sizeRefusal size M ≡ 0 → Sized size M
 unfolding sizeRefusal pick
 sized size M = go (ltb M 64) refl (ltb 9216 M) refl (ltb size 60) refl (ltb (M - 4) size) refl
   where
-    go : (a : Bool) → ltb M 64 ≡ a → (b : Bool) → ltb 9216 M ≡ b → (c : Bool) → ltb size 60 ≡ c → (d : Bool) → ltb (M - 4) size ≡ d → _≡_ {A = ℕ} (pick a 13 (pick b 13 (pick c 1 (pick d 2 0)))) 0 → Sized size M
+    go : (a : Bool) → ltb M 64 ≡ a → (b : Bool) → ltb 9216 M ≡ b → (c : Bool) → ltb size 60 ≡ c → (d : Bool) → ltb (M - 4) size ≡ d →
+        _≡_ {A = ℕ} (pick a 13 (pick b 13 (pick c 1 (pick d 2 0)))) 0 → Sized size M
     go true p b q c r d s e = omega arith
     go false p true q c r d s e = omega arith
     go false p false q true r d s e = omega arith
@@ -37,7 +38,9 @@ pub taken-is-sized : (frame : List ℕ) (M : ℕ) (own : List ℕ) → ((n : ℕ
 unfolding verdict pick
 taken-is-sized frame M own unrefused = go (eqb (sizeRefusal (length frame) M) 0) refl unrefused
   where
-    go : (a : Bool) → eqb (sizeRefusal (length frame) M) 0 ≡ a → ((n : ℕ) → pick a (wholeVerdict (addressAt own 0) frame) (Refused (sizeRefusal (length frame) M)) ≡ Refused n → ⊥) → Sized (length frame) M
+    go : (a : Bool) → eqb (sizeRefusal (length frame) M) 0 ≡ a →
+        ((n : ℕ) → pick a (wholeVerdict (addressAt own 0) frame) (Refused (sizeRefusal (length frame) M)) ≡ Refused n → ⊥) →
+        Sized (length frame) M
     go true p unref = sized (length frame) M (eqb-true (sizeRefusal (length frame) M) 0 p)
     go false p unref = absurd (unref (sizeRefusal (length frame) M) refl)
 

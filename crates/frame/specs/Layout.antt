@@ -1,38 +1,18 @@
 -- Document 01, "The frame": where each field of a PFC frame stands, and how its octets make a number.
-use Prim.Native.Nat.{ℕ, _+_, _*_, _/_, _%_}
+use Prim.Native.Nat.{ℕ, _+_, _*_}
 use mathlib.Core.List.{List, [], _∷_}
-use lib.ListN.{getD}
+use Rattle.octets.specs.Numbers.{octetAt, wordAt, addressAt}
 
--- the octet at a place
-abbrev pub octetAt : List ℕ → ℕ → ℕ
-octetAt octets place = getD octets place 0
-
--- "two octets each, most significant first"
-abbrev pub wordAt : List ℕ → ℕ → ℕ
-wordAt octets place = 256 * octetAt octets place + octetAt octets (place + 1)
-
--- the two octets of a number, most significant first
-abbrev pub wordOctets : ℕ → List ℕ
-wordOctets number = number / 256 % 256 ∷ number % 256 ∷ []
-
--- a station's address as a number, its first octet most significant
-abbrev pub addressOf : ℕ → ℕ → ℕ → ℕ → ℕ → ℕ → ℕ
-addressOf a b c d e f = 256 * (256 * (256 * (256 * (256 * a + b) + c) + d) + e) + f
-
--- the address whose six octets stand from a place on
-abbrev pub addressAt : List ℕ → ℕ → ℕ
-addressAt octets place =
-    addressOf
-    (octetAt octets place)
-    (octetAt octets (place + 1))
-    (octetAt octets (place + 2))
-    (octetAt octets (place + 3))
-    (octetAt octets (place + 4))
-    (octetAt octets (place + 5))
+-- the octets of a control frame, and the fewest of any frame
+abbrev pub frameOctets : ℕ
+frameOctets = 60
 
 -- "01-80-C2-00-00-01", the group address
+abbrev pub groupOctets : List ℕ
+groupOctets = 0x01 ∷ 0x80 ∷ 0xC2 ∷ 0x00 ∷ 0x00 ∷ 0x01 ∷ []
+
 abbrev pub group : ℕ
-group = 0x0180C2000001
+group = addressAt groupOctets 0
 
 -- "88-08", the Length/Type of a control frame
 abbrev pub controlType : ℕ

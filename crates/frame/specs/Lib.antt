@@ -1,5 +1,3 @@
--- What the frame's contracts cite, and document 01's cases for this layer.
-pub mod Build
-pub mod Cases
+-- What the contracts of reading cite, and the layout of a frame.
 pub mod Layout
 pub mod Read

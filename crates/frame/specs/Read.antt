@@ -6,14 +6,15 @@ use lib.ListN.{length, drop, getD}
 use lib.Dec.{ltb, eqb}
 use Rattle.ground.specs.Pick.{pick}
 use Rattle.ground.specs.Eight.{eight}
-use Rattle.frame.specs.Layout.{addressAt, group, controlType, pfcOpcode, destination, lengthType, opcode, enableOctet, timeField}
+use Rattle.octets.specs.Numbers.{addressAt}
+use Rattle.frame.specs.Layout.{frameOctets, group, controlType, pfcOpcode, destination, lengthType, opcode, enableOctet, timeField}
 use Rattle.frame.specs.declared.Request.{Request}
 use Rattle.frame.specs.declared.Verdict.{Verdict}
 use Rattle.frame.specs.declared.Verdict.the-variants.{Data, Asks, Refused}
 
 -- refusals 13 "M outside 64-9,216", 1 "frame shorter than 60", 2 "longer than M - 4", in this order; 0: none of them
 unfoldable pub sizeRefusal : ℕ → ℕ → ℕ
-sizeRefusal size M = pick (ltb M 64) 13 (pick (ltb 9216 M) 13 (pick (ltb size 60) 1 (pick (ltb (M - 4) size) 2 0)))
+sizeRefusal size M = pick (ltb M 64) 13 (pick (ltb 9216 M) 13 (pick (ltb size frameOctets) 1 (pick (ltb (M - 4) size) 2 0)))
 
 -- "Accepted destinations of control frames are the group address and the station's own."
 unfoldable pub isAccepted : ℕ → ℕ → Bool

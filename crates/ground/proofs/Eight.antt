@@ -67,7 +67,8 @@ some-found test holds =
     (found .0, found .1, sym (getD-eight test false (found .0) (found .1)) ∙ found .2)
 
 -- eight equations are one of lists
-pub eight-is : {A : Type 0} (entry : ℕ → A) {a0 a1 a2 a3 a4 a5 a6 a7 : A} → a0 ≡ entry 0 → a1 ≡ entry 1 → a2 ≡ entry 2 → a3 ≡ entry 3 → a4 ≡ entry 4 → a5 ≡ entry 5 → a6 ≡ entry 6 → a7 ≡ entry 7 → (a0 ∷ a1 ∷ a2 ∷ a3 ∷ a4 ∷ a5 ∷ a6 ∷ a7 ∷ []) ≡ eight entry
+pub eight-is : {A : Type 0} (entry : ℕ → A) {a0 a1 a2 a3 a4 a5 a6 a7 : A} → a0 ≡ entry 0 → a1 ≡ entry 1 → a2 ≡ entry 2 → a3 ≡ entry 3 →
+    a4 ≡ entry 4 → a5 ≡ entry 5 → a6 ≡ entry 6 → a7 ≡ entry 7 → (a0 ∷ a1 ∷ a2 ∷ a3 ∷ a4 ∷ a5 ∷ a6 ∷ a7 ∷ []) ≡ eight entry
 eight-is entry p0 p1 p2 p3 p4 p5 p6 p7 = cc
 
 -- a list of eight is made of its entries
@@ -78,4 +79,5 @@ eight-of-list list other long =
 -- two lists of eight are equal where their entries are
 pub eight-same : {A : Type 0} (one two : ℕ → A) → ((n : ℕ) → n < 8 → one n ≡ two n) → eight one ≡ eight two
 eight-same one two same =
-    eight-is two (same 0 (omega arith)) (same 1 (omega arith)) (same 2 (omega arith)) (same 3 (omega arith)) (same 4 (omega arith)) (same 5 (omega arith)) (same 6 (omega arith)) (same 7 (omega arith))
+    eight-is two (same 0 (omega arith)) (same 1 (omega arith)) (same 2 (omega arith)) (same 3 (omega arith))
+    (same 4 (omega arith)) (same 5 (omega arith)) (same 6 (omega arith)) (same 7 (omega arith))

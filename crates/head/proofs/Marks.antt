@@ -17,7 +17,8 @@ replaced-if true true time timer = refl
 replaced-if true false time timer = refl
 replaced-if false enabled time timer = refl
 
-pub replaced-all : (head : Head) (e : ℕ) (times : List ℕ) → replacedAll (eight (isSet e)) (eight (isSet (head .enabled))) times (head .timers) ≡ eight (timerAfterRequest head e times)
+pub replaced-all : (head : Head) (e : ℕ) (times : List ℕ) →
+    replacedAll (eight (isSet e)) (eight (isSet (head .enabled))) times (head .timers) ≡ eight (timerAfterRequest head e times)
 replaced-all head e times =
     eight-same (λ n. replacedIf (isSet e n) (isSet (head .enabled) n) (getD times n 0) (timer head n)) (timerAfterRequest head e times)
     (λ n below. replaced-if (isSet e n) (isSet (head .enabled) n) (getD times n 0) (timer head n))

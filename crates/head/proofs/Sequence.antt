@@ -37,11 +37,13 @@ timer-after n below (passing quanta ∷ events) head =
 
 module _ (n : ℕ) (below : n < 8) (one two : Head) (same-timer : timer one n ≡ timer two n) where
   -- two sequences of which priority n sees the same leave the same timer n, whatever else they hold
-  pub same-seen : (events others : List Event) → seen (one .enabled) n events ≡ seen (two .enabled) n others → timer (after one events) n ≡ timer (after two others) n
+  pub same-seen : (events others : List Event) → seen (one .enabled) n events ≡ seen (two .enabled) n others →
+      timer (after one events) n ≡ timer (after two others) n
   same-seen events others same = timer-after n below events one ∙ ap₂ timerBy same-timer same ∙ sym (timer-after n below others two)
 
   -- and so do two that tell it the same, under enable settings with the same bit n
-  pub same-told : (events others : List Event) → isSet (one .enabled) n ≡ isSet (two .enabled) n → told n events ≡ told n others → timer (after one events) n ≡ timer (after two others) n
+  pub same-told : (events others : List Event) → isSet (one .enabled) n ≡ isSet (two .enabled) n → told n events ≡ told n others →
+      timer (after one events) n ≡ timer (after two others) n
   same-told events others same-bit same = same-seen events others (ap₂ seenOf same-bit same)
 
 -- no event changes the enable setting

@@ -21,7 +21,8 @@ timer-start enabled = getD-eight (λ n. 0) 0
 
 module _ (head : Head) where
   -- timer n after a request
-  pub timer-taken : (e : ℕ) (times : List ℕ) (n : ℕ) → n < 8 → timer (afterRequest head e times) n ≡ pick (isNamed (head .enabled) e n) (getD times n 0) (timer head n)
+  pub timer-taken : (e : ℕ) (times : List ℕ) (n : ℕ) → n < 8 →
+      timer (afterRequest head e times) n ≡ pick (isNamed (head .enabled) e n) (getD times n 0) (timer head n)
   timer-taken e times = getD-eight (timerAfterRequest head e times) 0
 
   -- "It replaces": whatever it was, it is time[n]

@@ -1,20 +1,25 @@
 // The headroom sum for a support engineer: the cable, the rate, the largest frame and the delays go in as words, and the room to
 // keep comes out item by item.
 mod print;
-mod words;
 
 use headroom_sum::HaltLimit;
 use headroom_sum::Inputs;
 use headroom_sum::Summed;
-use headroom_sum::table::Stacked;
+use interface_rows::Stacked;
+use page::Page;
 use words::Word;
+
+// Prints a page; a write that fails is said on standard error.
+fn show(page: Page) {
+    console::output::write_page(b"headroom", page);
+}
 
 // The number that argument i says; what else it says is told.
 fn number_at(i: usize) -> Word {
     let mut buffer = io::buffer();
     let n = os::arg(i, &mut buffer);
     let word = words::number_of(&buffer[..n]);
-    print::tell(i, &buffer[..n], word);
+    show(print::told(i, &buffer[..n], word));
     word
 }
 
@@ -29,11 +34,11 @@ fn half_of(i: usize, stacked: Stacked, is_transmit: bool) -> Word {
             }
         }
         Stacked::Refused(_) => {
-            print::stack_too_long(i);
+            show(print::stack_too_long(i));
             Word::TooLarge
         }
         Stacked::Unknown => {
-            print::no_such_row(i);
+            show(print::no_such_row(i));
             Word::NotANumber
         }
     }
@@ -44,7 +49,7 @@ fn delay_at(i: usize, is_transmit: bool) -> Word {
     let mut buffer = io::buffer();
     let n = os::arg(i, &mut buffer);
     if words::is_rows(&buffer[..n]) {
-        return half_of(i, words::delays_of_rows(&mut buffer[..n]), is_transmit);
+        return half_of(i, words::delays_of_rows(&buffer[..n]), is_transmit);
     }
     number_at(i)
 }
@@ -59,8 +64,12 @@ fn limit_bits(rate: u64) -> u64 {
 
 fn answer(inputs: Inputs) {
     match headroom_sum::sum(inputs) {
-        Summed::Whole(items) => print::items(inputs, items),
-        Summed::Refused(number) => print::refusal(number, inputs.rate, limit_bits(inputs.rate)),
+        Summed::Whole(items) => show(print::items(inputs, items)),
+        Summed::Refused(number) => show(print::refusal(
+            number,
+            inputs.rate,
+            limit_bits(inputs.rate),
+        )),
     }
 }
 
@@ -88,7 +97,7 @@ fn read_numbers(numbers: &mut [u64; 10]) -> bool {
 
 fn main() {
     if os::arg_count() != 11 {
-        print::usage();
+        show(print::usage());
         return;
     }
     let mut numbers = [0u64; 10];

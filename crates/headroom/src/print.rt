@@ -1,186 +1,204 @@
-// What the program writes: the sum item by item, a refusal in words, a word that is no number, and how to use it.
-use crate::words;
-use crate::words::Word;
+// What the program prints, put on a page: the sum item by item, a refusal in words, a word that is no number, and how to use it.
 use headroom_sum::Inputs;
 use headroom_sum::Items;
-use libc::STDOUT_FILENO;
+use page::Page;
 use units::BitTimes;
 use units::OctetTimes;
-
-fn text(line: &[u8]) {
-    io::write_all(STDOUT_FILENO, line);
-}
-
-fn number(n: u64) {
-    io::print_decimal(STDOUT_FILENO, n);
-}
+use words::Word;
 
 // The first n octets of a line, or all of it where it is shorter.
-fn start(line: &[u8], n: usize) {
+fn start(page: Page, line: &[u8], n: usize) -> Page {
     if n <= line.len() {
-        text(&line[..n]);
+        page::put(page, &line[..n])
     } else {
-        text(line);
+        page::put(page, line)
     }
 }
 
 // A number at the right end of a column of twelve.
-fn column(n: u64) {
+fn column(page: Page, n: u64) -> Page {
     let mut digits = [0u8; 20];
     let k = io::decimal(n, &mut digits);
-    start(b"            ", words::blanks(12, k));
-    io::write_all(STDOUT_FILENO, &digits[..k]);
+    let page = start(page, b"            ", words::blanks(12, k));
+    page::put(page, &digits[..k])
 }
 
-fn no_column() {
-    text(b"           -");
+fn no_column(page: Page) -> Page {
+    page::put(page, b"           -")
 }
 
 // A delay that is counted in bits alone.
-fn bits_item(name: &[u8], bits: BitTimes) {
-    text(name);
-    column(bits.0);
-    no_column();
-    column(units::quanta_of_bits(bits).0);
-    text(b"\n");
+fn bits_item(page: Page, name: &[u8], bits: BitTimes) -> Page {
+    let page = no_column(column(page::put(page, name), bits.0));
+    page::put(column(page, units::quanta_of_bits(bits).0), b"\n")
 }
 
 // A part that is kept in octet times too.
-fn kept_item(name: &[u8], bits: BitTimes, octets: OctetTimes) {
-    text(name);
-    column(bits.0);
-    column(octets.0);
-    column(units::quanta_of_bits(bits).0);
-    text(b"\n");
+fn kept_item(page: Page, name: &[u8], bits: BitTimes, octets: OctetTimes) -> Page {
+    let page = column(column(page::put(page, name), bits.0), octets.0);
+    page::put(column(page, units::quanta_of_bits(bits).0), b"\n")
 }
 
 // A time that is counted in octets alone.
-fn octets_item(name: &[u8], octets: OctetTimes) {
-    text(name);
-    no_column();
-    column(octets.0);
-    no_column();
-    text(b"\n");
+fn octets_item(page: Page, name: &[u8], octets: OctetTimes) -> Page {
+    let page = no_column(page::put(page, name));
+    page::put(no_column(column(page, octets.0)), b"\n")
 }
 
-fn request_items(inputs: Inputs, items: Items) {
+// What a request waits for before it leaves B.
+fn waiting_items(page: Page, inputs: Inputs, items: Items) -> Page {
     let room = items.room;
-    kept_item(
+    let page = kept_item(
+        page,
         b"generation, G           ",
         inputs.generation,
         room.generation,
     );
-    kept_item(
+    let page = kept_item(
+        page,
         b"largest frame from B, W ",
         units::bits_of_octets(room.wire),
         room.wire,
     );
-    let pfc = OctetTimes(headroom_sum::PFC_TIME);
-    kept_item(b"PFC frame               ", units::bits_of_octets(pfc), pfc);
-    bits_item(b"  B transmit            ", inputs.b_transmit);
-    bits_item(b"  link                  ", items.link);
-    bits_item(b"  A receive             ", inputs.a_receive);
-    bits_item(b"  halt                  ", inputs.halt);
+    let pfc = units::PFC_TIME;
     kept_item(
+        page,
+        b"PFC frame               ",
+        units::bits_of_octets(pfc),
+        pfc,
+    )
+}
+
+fn request_items(page: Page, inputs: Inputs, items: Items) -> Page {
+    let page = bits_item(page, b"  B transmit            ", inputs.b_transmit);
+    let page = bits_item(page, b"  link                  ", items.link);
+    let page = bits_item(page, b"  A receive             ", inputs.a_receive);
+    let page = bits_item(page, b"  halt                  ", inputs.halt);
+    let room = items.room;
+    kept_item(
+        page,
         b"request path, P         ",
         items.request_path,
         room.request,
-    );
+    )
 }
 
-fn data_items(inputs: Inputs, items: Items) {
+fn data_items(page: Page, inputs: Inputs, items: Items) -> Page {
     let room = items.room;
-    kept_item(
+    let page = kept_item(
+        page,
         b"largest frame from A, W ",
         units::bits_of_octets(room.wire),
         room.wire,
     );
-    bits_item(b"  A transmit            ", inputs.a_transmit);
-    bits_item(b"  link                  ", items.link);
-    bits_item(b"  B receive             ", inputs.b_receive);
-    kept_item(b"data path, D            ", items.data_path, room.data);
+    let page = bits_item(page, b"  A transmit            ", inputs.a_transmit);
+    let page = bits_item(page, b"  link                  ", items.link);
+    let page = bits_item(page, b"  B receive             ", inputs.b_receive);
+    kept_item(
+        page,
+        b"data path, D            ",
+        items.data_path,
+        room.data,
+    )
+}
+
+fn sums(page: Page, items: Items) -> Page {
+    let page = bits_item(page, b"total                   ", items.total);
+    let room = items.room;
+    let page = octets_item(page, b"one-way time            ", room.one_way);
+    octets_item(page, b"headroom                ", room.headroom)
 }
 
 // The sum item by item: in bits, in octet times where it is kept in them, and in quanta rounded up.
-pub fn items(inputs: Inputs, items: Items) {
-    text(b"                                bits      octets      quanta\n");
-    request_items(inputs, items);
-    data_items(inputs, items);
-    bits_item(b"total                   ", items.total);
-    let room = items.room;
-    octets_item(b"one-way time            ", room.one_way);
-    octets_item(b"headroom                ", room.headroom);
+pub(crate) fn items(inputs: Inputs, items: Items) -> Page {
+    let page = page::put(
+        page::blank(),
+        b"                                bits      octets      quanta\n",
+    );
+    let page = waiting_items(page, inputs, items);
+    let page = request_items(page, inputs, items);
+    let page = data_items(page, inputs, items);
+    sums(page, items)
 }
 
-fn refused_halt(rate: u64, limit: u64) {
-    text(b"refused 19: the halt delay must be 0 to ");
-    number(limit);
-    text(b" bits at ");
-    number(rate);
-    text(b" Mb/s\n");
+fn refused_halt(page: Page, rate: u64, limit: u64) -> Page {
+    let page = page::put(page, b"refused 19: the halt delay must be 0 to ");
+    let page = page::put(page::number(page, limit), b" bits at ");
+    page::put(page::number(page, rate), b" Mb/s\n")
 }
 
 // A refusal: its number, what was refused and what is allowed.
-pub fn refusal(no: u8, rate: u64, limit: u64) {
+pub(crate) fn refusal(no: u8, rate: u64, limit: u64) -> Page {
+    let page = page::blank();
     match no {
-        10 => text(b"refused 10: the rate must be 10000, 40000 or 100000 Mb/s\n"),
-        11 => text(b"refused 11: the metres must be 0 to 100000\n"),
-        12 => text(b"refused 12: the signal's speed must be 40 to 100 per cent of light's\n"),
-        13 => text(b"refused 13: the largest frame M must be 64 to 9216 octets\n"),
-        14 => text(
+        10 => page::put(
+            page,
+            b"refused 10: the rate must be 10000, 40000 or 100000 Mb/s\n",
+        ),
+        11 => page::put(page, b"refused 11: the metres must be 0 to 100000\n"),
+        12 => page::put(
+            page,
+            b"refused 12: the signal's speed must be 40 to 100 per cent of light's\n",
+        ),
+        13 => page::put(
+            page,
+            b"refused 13: the largest frame M must be 64 to 9216 octets\n",
+        ),
+        14 => page::put(
+            page,
             b"refused 14: generation and each transmit and receive delay must be 0 to 1048576 bits, each path at most 134217728\n",
         ),
-        _ => refused_halt(rate, limit),
+        _ => refused_halt(page, rate, limit),
     }
 }
 
-fn name(i: usize) {
+// A page that begins with the name of argument i.
+fn name(i: usize) -> Page {
+    let page = page::blank();
     match i {
-        1 => text(b"RATE"),
-        2 => text(b"METRES"),
-        3 => text(b"PERCENTAGE"),
-        4 => text(b"M"),
-        5 => text(b"GENERATION"),
-        6 => text(b"B_TRANSMIT"),
-        7 => text(b"B_RECEIVE"),
-        8 => text(b"A_TRANSMIT"),
-        9 => text(b"A_RECEIVE"),
-        _ => text(b"HALT"),
+        1 => page::put(page, b"RATE"),
+        2 => page::put(page, b"METRES"),
+        3 => page::put(page, b"PERCENTAGE"),
+        4 => page::put(page, b"M"),
+        5 => page::put(page, b"GENERATION"),
+        6 => page::put(page, b"B_TRANSMIT"),
+        7 => page::put(page, b"B_RECEIVE"),
+        8 => page::put(page, b"A_TRANSMIT"),
+        9 => page::put(page, b"A_RECEIVE"),
+        _ => page::put(page, b"HALT"),
     }
 }
 
-// What is wrong with argument i, where something is.
-pub fn tell(i: usize, given: &[u8], word: Word) {
+// What is wrong with argument i, where something is; an empty page where nothing is.
+pub(crate) fn told(i: usize, given: &[u8], word: Word) -> Page {
     match word {
-        Word::Number(_) => {}
-        Word::NotANumber => {
-            name(i);
-            text(b" is not a number: ");
-            text(given);
-            text(b"\n");
-        }
-        Word::TooLarge => {
-            name(i);
-            text(b" is above 18446744073709551615: ");
-            text(given);
-            text(b"\n");
-        }
+        Word::Number(_) => page::blank(),
+        Word::NotANumber => page::put(
+            page::put(page::put(name(i), b" is not a number: "), given),
+            b"\n",
+        ),
+        Word::TooLarge => page::put(
+            page::put(
+                page::put(name(i), b" is above 18446744073709551615: "),
+                given,
+            ),
+            b"\n",
+        ),
     }
 }
 
-pub fn stack_too_long(i: usize) {
-    name(i);
-    text(b" is above 1048576 bits by its rows\n");
+pub(crate) fn stack_too_long(i: usize) -> Page {
+    page::put(name(i), b" is above 1048576 bits by its rows\n")
 }
 
-pub fn no_such_row(i: usize) {
-    name(i);
-    text(b" has a row that is not 1 to 8\n");
+pub(crate) fn no_such_row(i: usize) -> Page {
+    page::put(name(i), b" has a row that is not 1 to 8\n")
 }
 
 // How to use the program, with document 004's example as a line to copy.
-pub fn usage() {
-    text(
+pub(crate) fn usage() -> Page {
+    page::put(
+        page::blank(),
         b"usage: headroom RATE METRES PERCENTAGE M GENERATION B_TRANSMIT B_RECEIVE A_TRANSMIT A_RECEIVE HALT
 B is the recorder, A the head.
   RATE        10000, 40000 or 100000 Mb/s
@@ -197,5 +215,5 @@ The example of document 004, 100 metres of cable between two 10GBASE-T interface
   headroom 10000 100 60 2000 200 18944 18944 18944 18944 6144
   headroom 10000 100 60 2000 200 rows:1228 rows:1228 rows:1228 rows:1228 6144
 ",
-    );
+    )
 }

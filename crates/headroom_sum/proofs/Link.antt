@@ -2,7 +2,10 @@
 use Prim.Native.Nat.{ℕ, _+_, _-_, _*_, _/_, _≤_, _<_}
 use native.Mathlib.Nat.{mul-le-mul, div-lt-iff-lt-mul, lt-div-mul-add, div-mul-le-self}
 use native.Mathlib.Omega.{arith}
-use Rattle.headroom_sum.specs.Headroom.{roundedUp, linkBits}
+use Rattle.limits.specs.Limits.{largestPath}
+use Rattle.headroom_sum.specs.Link.{roundedUp, linkBits, lightSpeed}
+use Rattle.headroom_sum.specs.Rates.{largestRate}
+use Rattle.headroom_sum.specs.Headroom.{largestMetres, leastPercentage}
 
 -- a quotient rounded up is the least that covers the count
 pub rounded-up : (count parts : ℕ) → 0 < parts → (count ≤ roundedUp count parts * parts) × (roundedUp count parts * parts < count + parts)
@@ -11,16 +14,17 @@ rounded-up count parts h =
     in let under : roundedUp count parts * parts ≤ count + (parts - 1) = div-mul-le-self (count + (parts - 1)) parts
     in (omega arith, omega arith)
 
-module _ (metres rate percentage : ℕ) (m : metres ≤ 100000) (r : rate ≤ 100000) (p : 40 ≤ percentage) where
+module _ (metres rate percentage : ℕ) (m : metres ≤ largestMetres) (r : rate ≤ largestRate) (p : leastPercentage ≤ percentage) where
   -- the product under the quotient is far below what 64 bits hold
-  pub product-small : metres * rate ≤ 10000000000
+  pub product-small : metres * rate ≤ largestMetres * largestRate
   product-small = mul-le-mul m r
 
   -- the link's bits at the inputs that 10, 11 and 12 let through: no more than a path may have
-  pub link-small : linkBits metres rate percentage ≤ 134217728
+  pub link-small : linkBits metres rate percentage ≤ largestPath
   unfolding linkBits
   link-small =
-      let product : metres * rate ≤ 10000000000 = product-small
-      in let scaled : metres * rate * 100 + (percentage * 300 - 1) < 134217729 * (percentage * 300) = omega arith
-      in let below : (metres * rate * 100 + (percentage * 300 - 1)) / (percentage * 300) < 134217729 = div-lt-iff-lt-mul {k = percentage * 300} (omega arith) .1 scaled
+      let parts : ℕ = percentage * lightSpeed
+      in let product : metres * rate ≤ largestMetres * largestRate = product-small
+      in let scaled : metres * rate * 100 + (parts - 1) < (largestPath + 1) * parts = omega arith
+      in let below : (metres * rate * 100 + (parts - 1)) / parts < largestPath + 1 = div-lt-iff-lt-mul {k = parts} (omega arith) .1 scaled
       in omega arith

@@ -1,28 +1,43 @@
--- The order of the sum's refusals, "10, 11, 12, 13, 14, 19": what `sum` answers once the tests before are known. For the stages of `sum`. Assumes nothing.
+-- The sum's tests as its code makes them, and its items: for the stages of `sum`. Assumes nothing.
 use Prim.Native.Nat.{ℕ, _≤_, _<_}
-use mathlib.Core.Path.{_≡_, refl}
+use mathlib.Core.Path.{_≡_, refl, _∙_}
 use mathlib.Core.Bool.{Bool, true, false}
 use native.Mathlib.Omega.{arith}
-use borrow.Author.Tests.{lt-ltb, le-ltb}
+use borrow.Author.Tests.{lt-ltb, le-ltb, ltb-false}
 use Rattle.ground.specs.Pick.{pick}
-use Rattle.headroom_sum.specs.Headroom.{haltLimit, totalBits, delayOver, pathOver, refused10, refused11, refused12, refused13, refused14, stationOver, refused19}
-use Rattle.headroom_sum.specs.Sum.{sumRefusal, summed, items, linkOf, requestOf, dataOf, BeforeDelays, BeforePaths}
+use Rattle.ground.proofs.Pick.{pick-yes, pick-no}
 use Rattle.units.specs.declared.BitTimes.{BitTimes}
 use Rattle.units.specs.Units.{bitsOfQuanta}
-use Rattle.headroom_sum.specs.Keep.{kept}
+use Rattle.limits.specs.Limits.{largestDelay, largestPath, delayOver, pathOver}
+use Rattle.room_to_keep.specs.Keep.{kept}
+use Rattle.room_to_keep.specs.declared.Kept.{Kept}
+use Rattle.room_to_keep.proofs.Room.{neither}
+use Rattle.headroom_sum.specs.Rates.{haltLimit}
+use Rattle.headroom_sum.specs.Headroom.{leastPercentage, largestPercentage, totalBits, refused12, refused19}
+use Rattle.headroom_sum.specs.Sum.{items, linkOf, requestOf, dataOf, pathsOver}
+use Rattle.headroom_sum.specs.Stages.{BeforePaths}
 use Rattle.headroom_sum.specs.declared.Inputs.{Inputs}
 use Rattle.headroom_sum.specs.declared.Items.{Items}
-use Rattle.headroom_sum.specs.declared.Kept.{Kept}
-use Rattle.headroom_sum.specs.declared.Summed.{Summed}
 
--- what the code knows where it adds the paths up
-pub record Fitting (i : Inputs) (link : ℕ) : Type 0 where
-  pub b-transmit : i .«b_transmit» .0 ≤ 1048576
-  pub b-receive : i .«b_receive» .0 ≤ 1048576
-  pub a-transmit : i .«a_transmit» .0 ≤ 1048576
-  pub a-receive : i .«a_receive» .0 ≤ 1048576
-  pub halt : i .halt .0 ≤ 134217728
-  pub link-small : link ≤ 134217728
+-- what the station delays' test says where it does not hold
+pub record Fitting (bTransmit bReceive aTransmit aReceive : ℕ) : Type 0 where
+  pub b-transmit : bTransmit ≤ largestDelay
+  pub b-receive : bReceive ≤ largestDelay
+  pub a-transmit : aTransmit ≤ largestDelay
+  pub a-receive : aReceive ≤ largestDelay
+
+pub stations-within : {i : Inputs} → BeforePaths i →
+    Fitting (i .«b_transmit» .0) (i .«b_receive» .0) (i .«a_transmit» .0) (i .«a_receive» .0)
+stations-within {i} b =
+    let one = neither (delayOver (i .«b_transmit» .0)) _ (b .stations)
+    in let two = neither (delayOver (i .«b_receive» .0)) _ (one .1)
+    in let three = neither (delayOver (i .«a_transmit» .0)) _ (two .1)
+    in record {
+      b-transmit = ltb-false _ _ (one .0);
+      b-receive = ltb-false _ _ (two .0);
+      a-transmit = ltb-false _ _ (three .0);
+      a-receive = ltb-false _ _ (three .1);
+    }
 
 -- the halt delay against its limit, as the code tests it
 pub over-halt : (rate halt halting : ℕ) → halting ≡ bitsOfQuanta (haltLimit rate) → halting < halt → refused19 rate halt ≡ true
@@ -31,49 +46,27 @@ over-halt rate halt halting e h = lt-ltb (bitsOfQuanta (haltLimit rate)) halt (o
 pub within-halt : (rate halt halting : ℕ) → halting ≡ bitsOfQuanta (haltLimit rate) → halt ≤ halting → refused19 rate halt ≡ false
 within-halt rate halt halting e h = le-ltb (bitsOfQuanta (haltLimit rate)) halt (omega arith)
 
+-- 12 of a percentage, as the code tests it
+pub too-slow : (percentage : ℕ) → percentage < leastPercentage → refused12 percentage ≡ true
+too-slow percentage h = pick-yes _ _ (lt-ltb percentage leastPercentage h)
+
+pub too-fast : (percentage : ℕ) → leastPercentage ≤ percentage → largestPercentage < percentage → refused12 percentage ≡ true
+too-fast percentage l h = pick-no _ _ (le-ltb percentage leastPercentage l) ∙ lt-ltb largestPercentage percentage h
+
+pub within-percentage : (percentage : ℕ) → leastPercentage ≤ percentage → percentage ≤ largestPercentage → refused12 percentage ≡ false
+within-percentage percentage l h = pick-no _ _ (le-ltb percentage leastPercentage l) ∙ le-ltb largestPercentage percentage h
+
 either : (b r d : Bool) → r ≡ true → pick b true (pick r true d) ≡ true
 unfolding pick
 either true r d e = refl
 either false r d e = simp e
 
 module _ (i : Inputs) where
-  pub gives-10 : refused10 (i .rate) ≡ true → Summed.Refused 10 ≡ summed i
-  unfolding pick sumRefusal summed
-  gives-10 e = simp e
-
-  pub gives-11 : refused10 (i .rate) ≡ false → refused11 (i .metres) ≡ true → Summed.Refused 11 ≡ summed i
-  unfolding pick sumRefusal summed
-  gives-11 e10 e = simp (e10, e)
-
-  pub gives-12 : refused10 (i .rate) ≡ false → refused11 (i .metres) ≡ false → refused12 (i .percentage) ≡ true → Summed.Refused 12 ≡ summed i
-  unfolding pick sumRefusal summed
-  gives-12 e10 e11 e = simp (e10, e11, e)
-
-  pub gives-13 : BeforeDelays i → refused13 (i .largest) ≡ true → Summed.Refused 13 ≡ summed i
-  unfolding pick sumRefusal summed
-  gives-13 b e = simp (b .rate, b .metres, b .percentage, e)
-
-  pub gives-14-station : BeforeDelays i → refused13 (i .largest) ≡ false → stationOver (i .«b_transmit» .0) (i .«b_receive» .0) (i .«a_transmit» .0) (i .«a_receive» .0) ≡ true → Summed.Refused 14 ≡ summed i
-  unfolding pick sumRefusal summed
-  gives-14-station b e13 e = simp (b .rate, b .metres, b .percentage, e13, e)
-
-  pub gives-14 : BeforePaths i → refused14 (i .generation .0) (requestOf i) (dataOf i) ≡ true → Summed.Refused 14 ≡ summed i
-  unfolding pick sumRefusal summed
-  gives-14 b e = simp (b .link .rate, b .link .metres, b .link .percentage, b .largest, b .stations, e)
-
-  pub gives-19 : BeforePaths i → refused14 (i .generation .0) (requestOf i) (dataOf i) ≡ false → refused19 (i .rate) (i .halt .0) ≡ true → Summed.Refused 19 ≡ summed i
-  unfolding pick sumRefusal summed
-  gives-19 b e14 e = simp (b .link .rate, b .link .metres, b .link .percentage, b .largest, b .stations, e14, e)
-
-  pub gives-whole : BeforePaths i → refused14 (i .generation .0) (requestOf i) (dataOf i) ≡ false → refused19 (i .rate) (i .halt .0) ≡ false → Summed.Whole (items i) ≡ summed i
-  unfolding pick sumRefusal summed
-  gives-whole b e14 e = simp (b .link .rate, b .link .metres, b .link .percentage, b .largest, b .stations, e14, e)
-
   -- a halt above a path's limit by itself puts the request path above it
-  pub halt-alone : 134217728 < i .halt .0 → refused14 (i .generation .0) (requestOf i) (dataOf i) ≡ true
+  pub halt-alone : largestPath < i .halt .0 → pathsOver i ≡ true
   halt-alone h =
       either (delayOver (i .generation .0)) (pathOver (requestOf i)) (pathOver (dataOf i))
-      (lt-ltb 134217728 (requestOf i) (omega arith))
+      (lt-ltb largestPath (requestOf i) (omega arith))
 
   -- items made of the parts are the definition's
   pub items-made : (link request «data» total : BitTimes) (room : Kept) →

@@ -1,16 +1,14 @@
 -- The cases of document 01 that are marked P and belong to the headroom, as rows of tests to be computed; a table above collects them.
 use Prim.Native.Nat.{ℕ}
-use mathlib.Core.Bool.{Bool, true, false}
+use mathlib.Core.Bool.{Bool}
 use mathlib.Core.List.{List, [], _∷_}
 use lib.Dec.{eqb}
-use Rattle.ground.specs.Pick.{pick}
-use Rattle.headroom_sum.specs.Headroom.{linkBits}
-use Rattle.headroom_sum.specs.Sum.{bits, summed}
-use Rattle.headroom_sum.specs.TableN1.{stackAnswer}
+use Rattle.units.specs.Counts.{bits}
+use Rattle.headroom_sum.specs.Link.{linkBits}
+use Rattle.headroom_sum.specs.Sum.{summed}
 use Rattle.headroom_sum.specs.declared.Inputs.{Inputs}
 use Rattle.headroom_sum.specs.declared.Items.{Items}
 use Rattle.headroom_sum.specs.declared.Summed.{Summed}
-use Rattle.headroom_sum.specs.declared.table.Stacked.{Stacked}
 
 -- "(004) 10GBASE-T with MAC/RS and two XAUI: each direction 18,944; generation 200, M 2000, halt 6,144", over 100 m at 60 %
 abbrev pub example004 : Inputs
@@ -33,12 +31,6 @@ abbrev pub itemOf : (Items → ℕ) → Summed → ℕ
 itemOf item (Summed.Whole whole) = item whole
 itemOf item (Summed.Refused number) = 0
 
--- a stack has these two delays
-abbrev pub hasDelays : ℕ → ℕ → Stacked → Bool
-hasDelays transmit receive (Stacked.Delays t r) = pick (eqb (t .0) transmit) (eqb (r .0) receive) false
-hasDelays transmit receive (Stacked.Refused number) = false
-hasDelays transmit receive Stacked.Unknown = false
-
 unfoldable pub headroomCases : List Bool
 headroomCases =
     -- "P link 100 m, 10,000, 60 %: 5,556 bits."
@@ -47,8 +39,6 @@ headroomCases =
     ∷ eqb (linkBits 1 10000 60) 56
     -- "P 0 m: 0."
     ∷ eqb (linkBits 0 10000 60) 0
-    -- "P (004) 10GBASE-T with MAC/RS and two XAUI: each direction 18,944"
-    ∷ hasDelays 18944 18944 (stackAnswer (7 ∷ 0 ∷ 1 ∷ 1 ∷ []))
     -- "generation 200, M 2000, halt 6,144: 126,224 bits"
     ∷ eqb (itemOf (λ (s : Items). s .total .0) (summed example004)) 126224
     -- "one-way time 8,328"

@@ -1,28 +1,32 @@
-// The headroom of document 01: how much room a recorder keeps so that nothing is lost while a pause request takes effect. Every
+// The headroom sum of document 01: from the rate, the cable, the largest frame and the delays to the room that a recorder keeps. Every
 // input is answered: by the sum, item by item, or by document 01's refusal number.
+use limits::LARGEST_DELAY;
+use limits::LARGEST_M;
+use limits::LARGEST_PATH;
+use limits::LEAST_M;
+use room_to_keep::Keeping;
+use room_to_keep::Kept;
 use units::BitTimes;
-use units::OctetTimes;
 use units::Quanta;
 ghost use mathlib.Core.Path.{_≡_};
-ghost use Prim.Native.Nat.{_+_, _≤_};
-ghost use Rattle.units.specs.Units.{octetsOfBits};
-ghost use Rattle.headroom_sum.specs.Headroom.{linkBits, requestPath, dataPath, wireTime, totalBits, oneWay};
-ghost use Rattle.headroom_sum.specs.Keep.{limitAnswer, kept, keeping};
-ghost use Rattle.headroom_sum.specs.Sum.{linkOf, requestOf, dataOf, haltBits, summed, BeforeDelays, BeforePaths};
+ghost use Prim.Native.Nat.{_≤_};
+ghost use Rattle.units.specs.Units.{bitsOfOctets, wireTime};
+ghost use Rattle.limits.specs.Limits.{largestM, largestDelay, largestPath, refused13};
+ghost use Rattle.headroom_sum.specs.Link.{linkBits};
+ghost use Rattle.headroom_sum.specs.Rates.{largestRate, limitAnswer};
+ghost use Rattle.headroom_sum.specs.Headroom.{largestMetres, leastPercentage, largestPercentage, requestPath, dataPath, totalBits, stationOver};
+ghost use Rattle.headroom_sum.specs.Sum.{summed};
+ghost use Rattle.headroom_sum.specs.Stages.{Linked, Pathed};
 
-pub mod table;
+// What is allowed of the cable: its metres, and the signal's speed in it as a percentage of light's.
+const LARGEST_METRES: u64 = 100_000;
 
-// The wire time of a PFC frame, in octet times.
-pub const PFC_TIME: u64 = 84;
+const LEAST_PERCENTAGE: u64 = 40;
 
-// What is allowed: M in octets, a generation or station delay and a path in bits.
-const LEAST_M: u64 = 64;
+const LARGEST_PERCENTAGE: u64 = 100;
 
-const LARGEST_M: u64 = 9216;
-
-const LARGEST_DELAY: u64 = 1_048_576;
-
-const LARGEST_PATH: u64 = 134_217_728;
+// Light, in metres per microsecond.
+const LIGHT_SPEED: u64 = 300;
 
 // What the sum is made of: the rate in Mb/s, the cable's metres, the signal's speed as a percentage of light's, the largest frame
 // M in octets with FCS, and the delays in bit times. Any numbers may be given.
@@ -37,21 +41,6 @@ pub struct Inputs {
     pub a_transmit: BitTimes,
     pub a_receive: BitTimes,
     pub halt: BitTimes,
-}
-
-// What is kept in octet times: G, W, P, D, the one-way time and the headroom.
-pub struct Kept {
-    pub generation: OctetTimes,
-    pub wire: OctetTimes,
-    pub request: OctetTimes,
-    pub data: OctetTimes,
-    pub one_way: OctetTimes,
-    pub headroom: OctetTimes,
-}
-
-pub enum Keeping {
-    Room(Kept),
-    Refused(u8),
 }
 
 // The sum item by item: the link, the two paths and the total in bit times, and what is kept in octet times.
@@ -73,100 +62,25 @@ pub enum HaltLimit {
     Refused(u8),
 }
 
-// The limit of the halt delay at a rate in Mb/s; 10 for a number that is no rate.
+// The limit of the halt delay at each rate in Mb/s: 6,144, 24,576 and 61,440 bits; 10 for a number that is no rate.
 pub fn halt_limit(rate: u64) -> HaltLimit
     ensures { λ r. ⌜ r ≡ limitAnswer rate ⌝ }
 {
-    if rate == 10_000 {
-        return HaltLimit::Limit(Quanta(12));
+    match rate {
+        10_000 => HaltLimit::Limit(Quanta(12)),
+        40_000 => HaltLimit::Limit(Quanta(48)),
+        100_000 => HaltLimit::Limit(Quanta(120)),
+        _ => HaltLimit::Refused(10),
     }
-    if rate == 40_000 {
-        return HaltLimit::Limit(Quanta(48));
-    }
-    if rate == 100_000 {
-        return HaltLimit::Limit(Quanta(120));
-    }
-    HaltLimit::Refused(10)
 }
 
 // The bit times that the link holds.
 fn link_bits(metres: u64, rate: u64, percentage: u64) -> BitTimes
-    requires { ⌜ (metres ≤ 100000) × (rate ≤ 100000) × (40 ≤ percentage) × (percentage ≤ 100) ⌝ }
-    ensures { λ r. ⌜ (r .0 ≡ linkBits metres rate percentage) × (r .0 ≤ 134217728) ⌝ }
+    requires { ⌜ (metres ≤ largestMetres) × (rate ≤ largestRate) × (leastPercentage ≤ percentage) × (percentage ≤ largestPercentage) ⌝ }
+    ensures { λ r. ⌜ (r .0 ≡ linkBits metres rate percentage) × (r .0 ≤ largestPath) ⌝ }
 {
-    let parts = percentage * 300;
+    let parts = percentage * LIGHT_SPEED;
     BitTimes((metres * rate * 100 + (parts - 1)) / parts)
-}
-
-// W, the wire time of the largest frame.
-fn wire_time(largest: u64) -> OctetTimes
-    requires { ⌜ largest ≤ 9216 ⌝ }
-    ensures { λ r. ⌜ r .0 ≡ wireTime largest ⌝ }
-{
-    OctetTimes(largest + 20)
-}
-
-// The one-way time: G + W + 84 + P, G and P rounded up.
-fn one_way_time(largest: u64, generation: BitTimes, request: BitTimes) -> OctetTimes
-    requires { ⌜ (largest ≤ 9216) × (generation .0 ≤ 1048576) × (request .0 ≤ 134217728) ⌝ }
-    ensures { λ r. ⌜ r .0 ≡ oneWay largest (generation .0) (request .0) ⌝ }
-{
-    let g = units::octets_of_bits(generation);
-    let w = wire_time(largest);
-    let p = units::octets_of_bits(request);
-    OctetTimes(g.0 + w.0 + PFC_TIME + p.0)
-}
-
-// The headroom: one-way time + W + D, D rounded up.
-fn headroom_time(largest: u64, one_way: OctetTimes, data: BitTimes) -> OctetTimes
-    requires { ⌜ (largest ≤ 9216) × («one_way» .0 ≤ 16917608) × («data» .0 ≤ 134217728) ⌝ }
-    ensures { λ r. ⌜ r .0 ≡ «one_way» .0 + wireTime largest + octetsOfBits («data» .0) ⌝ }
-{
-    let w = wire_time(largest);
-    let d = units::octets_of_bits(data);
-    OctetTimes(one_way.0 + w.0 + d.0)
-}
-
-fn room_of(largest: u64, generation: BitTimes, request: BitTimes, data: BitTimes) -> Kept
-    requires { ⌜ (largest ≤ 9216) × (generation .0 ≤ 1048576) × (request .0 ≤ 134217728) × («data» .0 ≤ 134217728) ⌝ }
-    ensures { λ r. ⌜ r ≡ kept largest (generation .0) (request .0) («data» .0) ⌝ }
-{
-    let one_way = one_way_time(largest, generation, request);
-    Kept {
-        generation: units::octets_of_bits(generation),
-        wire: wire_time(largest),
-        request: units::octets_of_bits(request),
-        data: units::octets_of_bits(data),
-        one_way,
-        headroom: headroom_time(largest, one_way, data),
-    }
-}
-
-// What is kept in octet times for a largest frame M, a generation delay and the bits of the two paths: refusals 13 and 14.
-pub fn keep(
-    largest: u64,
-    generation: BitTimes,
-    request_path: BitTimes,
-    data_path: BitTimes,
-) -> Keeping
-    ensures { λ r. ⌜ r ≡ keeping largest (generation .0) («request_path» .0) («data_path» .0) ⌝ }
-{
-    if largest < LEAST_M {
-        return Keeping::Refused(13);
-    }
-    if LARGEST_M < largest {
-        return Keeping::Refused(13);
-    }
-    if LARGEST_DELAY < generation.0 {
-        return Keeping::Refused(14);
-    }
-    if LARGEST_PATH < request_path.0 {
-        return Keeping::Refused(14);
-    }
-    if LARGEST_PATH < data_path.0 {
-        return Keeping::Refused(14);
-    }
-    Keeping::Room(room_of(largest, generation, request_path, data_path))
 }
 
 // The request path: B transmit + link + A receive + halt.
@@ -176,28 +90,39 @@ fn request_bits(
     a_receive: BitTimes,
     halt: BitTimes,
 ) -> BitTimes
-    requires { ⌜ («b_transmit» .0 ≤ 1048576) × (link .0 ≤ 134217728) × («a_receive» .0 ≤ 1048576) × (halt .0 ≤ 134217728) ⌝ }
+    requires { ⌜ («b_transmit» .0 ≤ largestDelay) × (link .0 ≤ largestPath) × («a_receive» .0 ≤ largestDelay) × (halt .0 ≤ largestPath) ⌝ }
     ensures { λ r. ⌜ r .0 ≡ requestPath («b_transmit» .0) (link .0) («a_receive» .0) (halt .0) ⌝ }
 {
-    BitTimes(b_transmit.0 + link.0 + a_receive.0 + halt.0)
+    let there = units::sum_of_bits(b_transmit, link);
+    units::sum_of_bits(units::sum_of_bits(there, a_receive), halt)
 }
 
 // The data path: A transmit + link + B receive.
 fn data_bits(a_transmit: BitTimes, link: BitTimes, b_receive: BitTimes) -> BitTimes
-    requires { ⌜ («a_transmit» .0 ≤ 1048576) × (link .0 ≤ 134217728) × («b_receive» .0 ≤ 1048576) ⌝ }
+    requires { ⌜ («a_transmit» .0 ≤ largestDelay) × (link .0 ≤ largestPath) × («b_receive» .0 ≤ largestDelay) ⌝ }
     ensures { λ r. ⌜ r .0 ≡ dataPath («a_transmit» .0) (link .0) («b_receive» .0) ⌝ }
 {
-    BitTimes(a_transmit.0 + link.0 + b_receive.0)
+    units::sum_of_bits(units::sum_of_bits(a_transmit, link), b_receive)
+}
+
+// 8W, the wire time of the largest frame in bit times.
+fn frame_bits(largest: u64) -> BitTimes
+    requires { ⌜ largest ≤ largestM ⌝ }
+    ensures { λ r. ⌜ r .0 ≡ bitsOfOctets (wireTime largest) ⌝ }
+{
+    units::bits_of_octets(units::wire_time(largest))
 }
 
 // The total in bit times: generation + 8W + 672 + request path + 8W + data path.
 fn total_bits(largest: u64, generation: BitTimes, request: BitTimes, data: BitTimes) -> BitTimes
-    requires { ⌜ (largest ≤ 9216) × (generation .0 ≤ 1048576) × (request .0 ≤ 134217728) × («data» .0 ≤ 134217728) ⌝ }
+    requires { ⌜ (largest ≤ largestM) × (generation .0 ≤ largestDelay) × (request .0 ≤ largestPath) × («data» .0 ≤ largestPath) ⌝ }
     ensures { λ r. ⌜ r .0 ≡ totalBits largest (generation .0) (request .0) («data» .0) ⌝ }
 {
-    let w = units::bits_of_octets(wire_time(largest));
-    let pfc = units::bits_of_octets(OctetTimes(PFC_TIME));
-    BitTimes(generation.0 + w.0 + pfc.0 + request.0 + w.0 + data.0)
+    let w = frame_bits(largest);
+    let pfc = units::bits_of_octets(units::PFC_TIME);
+    let asking = units::sum_of_bits(units::sum_of_bits(generation, w), pfc);
+    let stopping = units::sum_of_bits(units::sum_of_bits(request, w), data);
+    units::sum_of_bits(asking, stopping)
 }
 
 // 14 by the generation and the paths, then 19; else the sum.
@@ -208,11 +133,11 @@ fn after_paths(
     data: BitTimes,
     halting: BitTimes,
 ) -> Summed
-    requires { ⌜ BeforePaths inputs ⌝ }
-    requires { ⌜ (link .0 ≡ linkOf inputs) × (request .0 ≡ requestOf inputs) × («data» .0 ≡ dataOf inputs) × (halting .0 ≡ haltBits inputs) ⌝ }
+    requires { ⌜ Pathed inputs (link .0) (request .0) («data» .0) (halting .0) ⌝ }
     ensures { λ r. ⌜ r ≡ summed inputs ⌝ }
 {
-    let Keeping::Room(room) = keep(inputs.largest, inputs.generation, request, data) else {
+    let Keeping::Room(room) = room_to_keep::keep(inputs.largest, inputs.generation, request, data)
+    else {
         return Summed::Refused(14);
     };
     if halting.0 < inputs.halt.0 {
@@ -227,31 +152,54 @@ fn after_paths(
     })
 }
 
+// 13: M is outside its range.
+fn outside_m(largest: u64) -> bool
+    ensures { λ r. ⌜ r ≡ refused13 largest ⌝ }
+{
+    if largest < LEAST_M {
+        return true;
+    }
+    LARGEST_M < largest
+}
+
+// 14 by a station delay.
+fn station_over(
+    b_transmit: BitTimes,
+    b_receive: BitTimes,
+    a_transmit: BitTimes,
+    a_receive: BitTimes,
+) -> bool
+    ensures { λ r. ⌜ r ≡ stationOver («b_transmit» .0) («b_receive» .0) («a_transmit» .0) («a_receive» .0) ⌝ }
+{
+    if LARGEST_DELAY.0 < b_transmit.0 {
+        return true;
+    }
+    if LARGEST_DELAY.0 < b_receive.0 {
+        return true;
+    }
+    if LARGEST_DELAY.0 < a_transmit.0 {
+        return true;
+    }
+    LARGEST_DELAY.0 < a_receive.0
+}
+
 // 13, then 14 by a station delay or by a halt that is above a path's limit by itself; then the paths fit and are tried whole.
 fn after_link(inputs: Inputs, link: BitTimes, halting: BitTimes) -> Summed
-    requires { ⌜ BeforeDelays inputs ⌝ }
-    requires { ⌜ (link .0 ≡ linkOf inputs) × (link .0 ≤ 134217728) × (halting .0 ≡ haltBits inputs) ⌝ }
+    requires { ⌜ Linked inputs (link .0) (halting .0) ⌝ }
     ensures { λ r. ⌜ r ≡ summed inputs ⌝ }
 {
-    if inputs.largest < LEAST_M {
+    if outside_m(inputs.largest) {
         return Summed::Refused(13);
     }
-    if LARGEST_M < inputs.largest {
-        return Summed::Refused(13);
-    }
-    if LARGEST_DELAY < inputs.b_transmit.0 {
+    if station_over(
+        inputs.b_transmit,
+        inputs.b_receive,
+        inputs.a_transmit,
+        inputs.a_receive,
+    ) {
         return Summed::Refused(14);
     }
-    if LARGEST_DELAY < inputs.b_receive.0 {
-        return Summed::Refused(14);
-    }
-    if LARGEST_DELAY < inputs.a_transmit.0 {
-        return Summed::Refused(14);
-    }
-    if LARGEST_DELAY < inputs.a_receive.0 {
-        return Summed::Refused(14);
-    }
-    if LARGEST_PATH < inputs.halt.0 {
+    if LARGEST_PATH.0 < inputs.halt.0 {
         return Summed::Refused(14); // by the halt alone: the request path holds it
     }
     let request = request_bits(inputs.b_transmit, link, inputs.a_receive, inputs.halt);
@@ -266,13 +214,13 @@ pub fn sum(inputs: Inputs) -> Summed
     let HaltLimit::Limit(limit) = halt_limit(inputs.rate) else {
         return Summed::Refused(10);
     };
-    if 100_000 < inputs.metres {
+    if LARGEST_METRES < inputs.metres {
         return Summed::Refused(11);
     }
-    if inputs.percentage < 40 {
+    if inputs.percentage < LEAST_PERCENTAGE {
         return Summed::Refused(12);
     }
-    if 100 < inputs.percentage {
+    if LARGEST_PERCENTAGE < inputs.percentage {
         return Summed::Refused(12);
     }
     let link = link_bits(inputs.metres, inputs.rate, inputs.percentage);

@@ -1,36 +1,30 @@
 -- A room's counters are the sums over the records of a run: no assumption on the settings but that they are accepted.
-use Prim.Native.Nat.{ℕ, _+_, _≤_, _<_, max}
-use mathlib.Core.Bool.{Bool, true, false}
+use Prim.Native.Nat.{ℕ, _+_, max}
+use mathlib.Core.Bool.{Bool, true, false, false≢true}
 use mathlib.Core.Path.{_≡_, refl, sym, ap, _∙_, subst}
 use mathlib.Core.List.{List, [], _∷_}
 use native.Mathlib.Omega.{arith}
-use borrow.Author.Tests.{eqb-true, eqb-false}
+use borrow.Author.Tests.{eqb-true, eq-eqb, ne-eqb}
 use lib.Dec.{eqb}
-use lib.ListN.{getD, set, length}
-use lib.Seq.{getD-set-same, getD-set-other}
 use Rattle.ground.specs.Pick.{pick}
-use Rattle.ground.proofs.Eight.{getD-eight}
+use Rattle.ground.proofs.Pick.{pick-yes, pick-no}
 use Rattle.units.specs.Units.{within64}
-use Rattle.head.specs.Timers.{timer}
-use Rattle.recorder.specs.declared.room.Room.{Room}
-use Rattle.recorder.specs.declared.watch.Moment.{Moment}
-use Rattle.recorder.specs.declared.watch.Recorder.{Recorder}
-use Rattle.recorder.specs.declared.watch.Watch.{Watch}
-use Rattle.recorder.specs.Room.{arrivedIn, takenFrom}
-use Rattle.recorder.specs.Settings.{isEnabled}
-use Rattle.recorder.specs.Watching.{emptyRoom, roomAt, limitsOf, withRoom, arrivedAt, takenAt, startedAt, withDue}
-use Rattle.bench_steps.specs.State.{DataFrame, PfcFrame, State, empty}
-use Rattle.bench_steps.specs.Step.{refusalOf, nextOf, stepOf, waited, dataStarted, arrived, otherStarted, pfcStarted, tookEffect, octetsTaken}
+use Rattle.rooms.specs.declared.Room.{Room}
+use Rattle.rooms.specs.Room.{arrivedIn, takenFrom}
+use Rattle.rooms.proofs.Counters.{Change, Tally, tally-on}
+use Rattle.settings.specs.Settings.{isEnabled}
+use Rattle.recorder.specs.declared.Watch.{Watch}
+use Rattle.recorder.specs.Watching.{Recorder, roomAt, limitsOf, withRoom, arrivedWith, arrivedAt, takenWith, takenAt, startedAt, withDue}
+use Rattle.recorder.proofs.RoomLaws.{EightRooms, fresh-room, room-then}
 use Rattle.records.specs.declared.Record.{Record}
 use Rattle.records.specs.declared.Record.the-variants as record'
+use Rattle.bench_meaning.specs.State.{Frame, State, priorityOf, lengthOf, empty}
+use Rattle.bench_meaning.specs.Step.{refusalOf, nextOf, stepOf, waited, dataStarted, arrived, otherStarted, pfcStarted, tookEffect, octetsTaken}
 use Rattle.no_loss.specs.Runs.{after, oldestBrings, brings, arriving, notFitting, droppedSum, spanSum, worstFrom}
-use Rattle.no_loss.proofs.Group.{Group}
-use Rattle.no_loss.proofs.Watches.{SoundWatch, termsOf, mark-is, enabled-below}
-use Rattle.no_loss.proofs.Own.{Only}
-use Rattle.no_loss.proofs.Asking.{AsksFor}
+use Rattle.no_loss.proofs.Watches.{SoundWatch, Enabled, one-of-eight}
+use Rattle.no_loss.proofs.Own.{own-calm}
 use Rattle.no_loss.proofs.Invariant.{Inv, inv-empty}
 use Rattle.no_loss.proofs.Run.{inv-step}
-use Rattle.no_loss.proofs.Counters.{Change, Tally, Calm, tally-on}
 
 -- the counters of a priority's room in a state, as 64-bit numbers hold the sums
 abbrev pub CountersAre : ℕ → State → ℕ → ℕ → Type 0
@@ -40,95 +34,75 @@ CountersAre p s dropped worst = (roomAt (s .recorder) p .dropped ≡ within64 dr
 held64 : {count sum sum' : ℕ} → count ≡ within64 sum → sum ≡ sum' → count ≡ within64 sum'
 held64 e same = e ∙ ap (λ (x : ℕ). within64 x) same
 
-module _ (w : Watch) (p : ℕ) (on : isEnabled (w .settings .enabled) p ≡ true) where
-  -- the room of p once the room of q is as given
-  set-change : (r : Recorder) (q octets : ℕ) (room : Room) → q < length (r .rooms) → q ≡ p → Change (limitsOf w q) (roomAt r q) octets room →
-      Change (limitsOf w p) (roomAt r p) octets (getD (set (r .rooms) q room) p emptyRoom)
-  set-change r q octets room here same change =
-      subst (λ (k : ℕ). Change (limitsOf w k) (roomAt r k) octets (getD (set (r .rooms) q room) k emptyRoom)) same
-      (subst (λ (x : Room). Change (limitsOf w q) (roomAt r q) octets x) (sym (getD-set-same (r .rooms) q room emptyRoom here)) change)
+module _ (w : Watch) (p : ℕ) (on : Enabled w p) where
+  -- how the room of p has changed, and the octets that were brought
+  abbrev Changes : Recorder → ℕ → Room → Type 0
+  Changes r octets room = Change (limitsOf w p) (roomAt r p) octets room
 
-  -- the room of q is not the room of p
-  other-change : (r : Recorder) (q : ℕ) (room : Room) → (p ≡ q → ⊥) → Change (limitsOf w p) (roomAt r p) 0 (getD (set (r .rooms) q room) p emptyRoom)
-  other-change r q room differs = subst (λ (x : Room). Change (limitsOf w p) (roomAt r p) 0 x) (sym (getD-set-other (r .rooms) q p room emptyRoom differs)) Change.none
+  -- the room of q changes: that of p does by as much where it is the same, and else it stays
+  one-changes : (r : Recorder) → EightRooms r → (q octets clock : ℕ) (room : Room) → Change (limitsOf w q) (roomAt r q) octets room →
+      Changes r (pick (eqb q p) octets 0) (roomAt (withRoom r q room clock) p)
+  one-changes r all q octets clock room change =
+      room-then r q room clock all (Changes r (pick (eqb q p) octets 0)) p (one-of-eight w p on)
+      (λ same.
+      subst (λ (n : ℕ). Changes r n room) (sym (pick-yes octets 0 (eq-eqb q p (sym same))))
+      (subst (λ (k : ℕ). Change (limitsOf w k) (roomAt r k) octets room) (sym same) change))
+      (λ apart. subst (λ (n : ℕ). Changes r n (roomAt r p)) (sym (pick-no octets 0 (ne-eqb q p (λ same. apart (sym same))))) Change.none)
 
-  here : (r : Recorder) (q : ℕ) → length (r .rooms) ≡ 8 → q ≡ p → q < length (r .rooms)
-  here r q eight same = omega (arith, enabled-below (w .settings .enabled) p on)
-
-  -- kind 03
-  arrive-change : (s : State) (row : List DataFrame) → length (s .recorder .rooms) ≡ 8 →
-      Change (limitsOf w p) (roomAt (s .recorder) p) (oldestBrings p row) (roomAt (arrived w s row .recorder) p)
-  unfolding arrived arrivedAt withRoom oldestBrings pick
-  arrive-change s [] eight = Change.none
-  arrive-change s (f ∷ rest) eight = go (eqb (f .priority) p) refl (isEnabled (w .settings .enabled) (f .priority)) refl
+  -- kind 03: a frame of p's is of an enabled priority
+  arrive-change : (s : State) (row : List Frame) → EightRooms (s .recorder) → Changes (s .recorder) (oldestBrings p row) (roomAt (arrived w s row .recorder) p)
+  unfolding arrived arrivedAt arrivedWith oldestBrings pick
+  arrive-change s [] all = Change.none
+  arrive-change s (f ∷ rest) all = go (isEnabled (w .settings .enabled) (priorityOf f)) refl (eqb (priorityOf f) p) refl
     where
       room : Room
-      room = arrivedIn (limitsOf w (f .priority)) (roomAt (s .recorder) (f .priority)) (f .length)
+      room = arrivedIn (limitsOf w (priorityOf f)) (roomAt (s .recorder) (priorityOf f)) (lengthOf f)
 
-      go : (mine : Bool) → eqb (f .priority) p ≡ mine → (enabled : Bool) → isEnabled (w .settings .enabled) (f .priority) ≡ enabled →
-          Change (limitsOf w p) (roomAt (s .recorder) p) (pick mine (f .length) 0)
-          (roomAt (pick enabled (withRoom (s .recorder) (f .priority) room (s .now)) (s .recorder)) p)
-      go true e true h = let same = eqb-true _ _ e in set-change (s .recorder) (f .priority) (f .length) room (here (s .recorder) (f .priority) eight same) same (Change.arrives (f .length))
-      go true e false h =
-          let same : f .priority ≡ p = eqb-true _ _ e in let z : _≡_ {A = ℕ} 0 1 = cc in absurd (omega arith)
-      go false e true h = other-change (s .recorder) (f .priority) room (λ same. eqb-false _ _ e (sym same))
-      go false e false h = Change.none
+      go : (enabled : Bool) → isEnabled (w .settings .enabled) (priorityOf f) ≡ enabled → (mine : Bool) → eqb (priorityOf f) p ≡ mine →
+          Changes (s .recorder) (pick (eqb (priorityOf f) p) (lengthOf f) 0)
+          (roomAt (pick enabled (withRoom (s .recorder) (priorityOf f) room (s .clock)) (s .recorder)) p)
+      go true h mine e = one-changes (s .recorder) all (priorityOf f) (lengthOf f) (s .clock) room (Change.arrives (lengthOf f))
+      go false h true e = absurd (false≢true (sym h ∙ ap (isEnabled (w .settings .enabled)) (eqb-true (priorityOf f) p e) ∙ on))
+      go false h false e = subst (λ (n : ℕ). Changes (s .recorder) n (roomAt (s .recorder) p)) (sym (pick-no (lengthOf f) 0 e)) Change.none
 
   -- kind 07
-  take-change : (s : State) (q octets : ℕ) → length (s .recorder .rooms) ≡ 8 →
-      Change (limitsOf w p) (roomAt (s .recorder) p) 0 (roomAt (octetsTaken w s q octets .recorder) p)
-  unfolding octetsTaken takenAt withRoom
-  take-change s q octets eight = go (eqb q p) refl
+  take-change : (s : State) (q octets : ℕ) → EightRooms (s .recorder) → Changes (s .recorder) 0 (roomAt (octetsTaken w s q octets .recorder) p)
+  unfolding octetsTaken takenAt takenWith pick
+  take-change s q octets all =
+      go (eqb q p)
+      (one-changes (s .recorder) all q 0 (s .clock) (takenFrom (limitsOf w q) (roomAt (s .recorder) q) octets) (Change.taken octets))
     where
-      room : Room
-      room = takenFrom (limitsOf w q) (roomAt (s .recorder) q) octets
-
-      go : (mine : Bool) → eqb q p ≡ mine → Change (limitsOf w p) (roomAt (s .recorder) p) 0 (getD (set (s .recorder .rooms) q room) p emptyRoom)
-      go true e = let same = eqb-true _ _ e in set-change (s .recorder) q 0 room (here (s .recorder) q eight same) same (Change.taken octets)
-      go false e = other-change (s .recorder) q room (λ same. eqb-false _ _ e (sym same))
+      go : {room : Room} (mine : Bool) → Changes (s .recorder) (pick mine 0 0) room → Changes (s .recorder) 0 room
+      go true change = change
+      go false change = change
 
   -- kind 06
-  effect-change : (s : State) (row : List PfcFrame) → Change (limitsOf w p) (roomAt (s .recorder) p) 0 (roomAt (tookEffect w s row .recorder) p)
+  effect-change : (s : State) (row : List Frame) → Changes (s .recorder) 0 (roomAt (tookEffect w s row .recorder) p)
   unfolding tookEffect
   effect-change s [] = Change.none
   effect-change s (f ∷ rest) = Change.none
 
-  -- how a record changes the room of p
-  next-change : (s : State) (asked : Record) → length (s .recorder .rooms) ≡ 8 →
-      Change (limitsOf w p) (roomAt (s .recorder) p) (brings p s asked) (roomAt (nextOf w s asked .recorder) p)
+  -- how a record that is accepted changes the room of p
+  next-change : (s : State) (asked : Record) → EightRooms (s .recorder) → Changes (s .recorder) (brings p s asked) (roomAt (nextOf w s asked .recorder) p)
   unfolding nextOf brings waited withDue dataStarted otherStarted pfcStarted startedAt
-  next-change s (record'.Wait n) eight = Change.none
-  next-change s (record'.StartData priority size) eight = Change.none
-  next-change s record'.Arrive eight = arrive-change s (s .dataRow) eight
-  next-change s (record'.StartOther size) eight = Change.none
-  next-change s record'.StartPfc eight = Change.none
-  next-change s record'.TakeEffect eight = effect-change s (s .pfcRow)
-  next-change s (record'.TakeOctets priority octets) eight = take-change s priority octets eight
-  next-change s (record'.Refused number) eight = Change.none
+  next-change s (record'.Wait n) all = Change.none
+  next-change s (record'.StartData priority size) all = Change.none
+  next-change s record'.Arrive all = arrive-change s (s .toB .row) all
+  next-change s (record'.StartOther size) all = Change.none
+  next-change s record'.StartPfc all = Change.none
+  next-change s record'.TakeEffect all = effect-change s (s .toA .row)
+  next-change s (record'.TakeOctets priority octets) all = take-change s priority octets all
+  next-change s (record'.Refused number) all = Change.none
 
   -- and none that is refused does
-  pub step-change : (s : State) (asked : Record) → length (s .recorder .rooms) ≡ 8 →
-      Change (limitsOf w p) (roomAt (s .recorder) p) (arriving w p s asked) (roomAt (stepOf w s asked .recorder) p)
+  pub step-change : (s : State) (asked : Record) → EightRooms (s .recorder) →
+      Changes (s .recorder) (arriving w p s asked) (roomAt (stepOf w s asked .recorder) p)
   unfolding stepOf arriving pick
-  step-change s asked eight = go (eqb (refusalOf w s asked) 0)
+  step-change s asked all = go (eqb (refusalOf w s asked) 0)
     where
-      go : (accepted : Bool) →
-          Change (limitsOf w p) (roomAt (s .recorder) p) (pick accepted (brings p s asked) 0)
-          (roomAt (pick accepted (nextOf w s asked) s .recorder) p)
-      go true = next-change s asked eight
+      go : (accepted : Bool) → Changes (s .recorder) (pick accepted (brings p s asked) 0) (roomAt (pick accepted (nextOf w s asked) s .recorder) p)
+      go true = next-change s asked all
       go false = Change.none
-
-  -- where p is not wanted, the mark's room is free
-  calm-group : SoundWatch w →
-      {t timer : ℕ} {due last : Moment} {dataRow : List DataFrame} {aFree : ℕ} {pfcRow : List PfcFrame} {wanted : Bool} {free span : ℕ} →
-      Group (termsOf w) (Only p) (AsksFor w p) t timer due last dataRow aFree pfcRow wanted free span → wanted ≡ false → limitsOf w p .mark ≤ free
-  calm-group sound (Group.calm g) off = omega (arith, mark-is w sound p)
-  calm-group sound (Group.wanted g) off = let z : _≡_ {A = ℕ} 0 1 = cc in absurd (omega arith)
-
-  -- as the invariant says
-  calm-at : SoundWatch w → (s : State) → Inv w s → Calm (limitsOf w p) (roomAt (s .recorder) p)
-  unfolding limitsOf
-  calm-at sound s inv off = calm-group sound (inv .own p on .group) off
 
   -- the counters after a list of records, from those before it
   counted : SoundWatch w → (records : List Record) (s : State) → Inv w s → (dropped span worst : ℕ) →
@@ -137,7 +111,7 @@ module _ (w : Watch) (p : ℕ) (on : isEnabled (w .settings .enabled) p ≡ true
   unfolding after droppedSum notFitting worstFrom spanSum
   counted sound [] s inv dropped span worst h = (held64 (h .dropped-is) (omega arith), held64 (h .worst-is) (omega arith))
   counted sound (asked ∷ rest) s inv dropped span worst h =
-      let then = tally-on (step-change s asked (inv .rooms)) (calm-at sound s inv) h in
+      let then = tally-on (step-change s asked (inv .rooms)) (own-calm sound (inv .own p on)) h in
       let later = counted sound rest (stepOf w s asked) (inv-step w sound s asked inv) _ _ _ then in
       (held64 (later .0) (omega arith), held64 (later .1) (omega arith))
 
@@ -145,6 +119,6 @@ module _ (w : Watch) (p : ℕ) (on : isEnabled (w .settings .enabled) p ≡ true
   pub counted-from-start : SoundWatch w → (records : List Record) →
       CountersAre p (after w (empty w) records) (0 + droppedSum w p (empty w) records) (max 0 (worstFrom w p (empty w) 0 records))
   counted-from-start sound records =
-      let room : roomAt (empty w .recorder) p ≡ emptyRoom = getD-eight (λ n. emptyRoom) emptyRoom p (enabled-below (w .settings .enabled) p on) in
       counted sound records (empty w) (inv-empty w sound) 0 0 0
-      (subst (λ (r : Room). Tally r 0 0 0) (sym room) (record { dropped-is = omega arith; worst-is = omega arith; span-is = tt }))
+      (subst (λ (r : Room). Tally r 0 0 0) (sym (fresh-room p (one-of-eight w p on)))
+      (record { dropped-is = omega arith; worst-is = omega arith; span-is = λ wanted. absurd (false≢true wanted) }))

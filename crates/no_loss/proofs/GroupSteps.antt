@@ -6,100 +6,112 @@ use mathlib.Core.List.{List, [], _∷_, _++_}
 use native.Mathlib.Omega.{arith}
 use Rattle.ground.specs.Pick.{pick}
 use Rattle.units.specs.Units.{within64}
-use Rattle.recorder.specs.declared.watch.Moment.{Moment}
-use Rattle.recorder.specs.declared.watch.Moment.the-variants.{Never, At}
-use Rattle.recorder.specs.Room.{spanAfter, spanKept}
-use Rattle.recorder.specs.Watching.{dueOn, dueBy, differ}
-use Rattle.bench_steps.specs.State.{DataFrame, PfcFrame}
+use Rattle.moments.specs.declared.Moment.{Moment}
+use Rattle.moments.specs.declared.Moment.the-variants.{Never, At}
+use Rattle.moments.specs.Moments.{at, dueOn, dueBy}
+use Rattle.rooms.specs.Room.{spanAfter, spanKept}
+use Rattle.recorder.specs.Watching.{differ}
+use Rattle.bench_meaning.specs.State.{Frame, priorityOf, lengthOf}
+use Rattle.bench_meaning.specs.Step.{oldestEnd}
 use Rattle.no_loss.proofs.Terms.{Terms, Sound, W, O, H, lost}
 use Rattle.no_loss.proofs.Rows
 use Rattle.no_loss.proofs.Link.{DueInTime, RefreshIs, ToB, ToA, Marked}
 use Rattle.no_loss.proofs.Group.{Waits, Mode, Wanted, Group}
 use Rattle.no_loss.proofs.Modes.{sends-by-stop, mode-on, mode-passed, mode-started, mode-took}
 
-module _ {c : Terms} {Mine : ℕ → Type 0} {Asks : PfcFrame → Type 0} {t timer : ℕ} {due last : Moment} {aFree : ℕ} where
+module _ {c : Terms} {Mine : ℕ → Type 0} {Asks : Frame → Type 0} {t : ℕ} {timers : ℕ → ℕ} {due last : Moment} {aFree : ℕ} where
   -- the same group in another mode
-  in-mode : {t' timer' : ℕ} {due' last' : Moment} {dataRow : List DataFrame} {pfcRow pfcRow' : List PfcFrame} {free span : ℕ} →
-      (g : Wanted c Mine Asks t timer due last dataRow aFree pfcRow free span) → Mode c Asks t' timer' due' last' pfcRow' (g .stop) →
-      Wanted c Mine Asks t' timer' due' last' dataRow aFree pfcRow' free span
+  in-mode : {t' : ℕ} {timers' : ℕ → ℕ} {due' last' : Moment} {dataRow pfcRow pfcRow' : List Frame} {free span : ℕ} →
+      (g : Wanted c Mine Asks t timers due last dataRow aFree pfcRow free span) → Mode c Mine Asks t' timers' due' last' pfcRow' (g .stop) →
+      Wanted c Mine Asks t' timers' due' last' dataRow aFree pfcRow' free span
   in-mode g mode =
       record { stop = g .stop; base = g .base; follows = g .follows; arriving = g .arriving; ends = g .ends; fitting = g .fitting; mode = mode }
 
   -- kind 01: time passes
-  pub group-passed : {dataRow : List DataFrame} {pfcRow : List PfcFrame} {wanted : Bool} {free span bFree : ℕ} (t' timer' : ℕ) (refresh : Moment) →
-      t ≤ t' → timer' ≡ timer - (t' / 64 - t / 64) → Marked c t bFree due last wanted → (wanted ≡ true → RefreshIs c true last refresh) →
-      Group c Mine Asks t timer due last dataRow aFree pfcRow wanted free span →
-      Group c Mine Asks t' timer' (dueBy refresh t' due) last dataRow aFree pfcRow wanted free span
-  group-passed t' timer' refresh h e m i (Group.calm g) = Group.calm g
-  group-passed t' timer' refresh h e m i (Group.wanted g) = Group.wanted (in-mode g (rw e (mode-passed t' refresh h (m .refreshed) (i refl) (g .mode))))
+  pub group-passed : {dataRow pfcRow : List Frame} {wanted : Bool} {free span bFree : ℕ} (t' : ℕ) (timers' : ℕ → ℕ) (refresh : Moment) →
+      t ≤ t' → ((n : ℕ) → Mine n → timers' n ≡ timers n - (t' / 64 - t / 64)) → Marked c t bFree due last wanted →
+      (wanted ≡ true → RefreshIs c true last refresh) →
+      Group c Mine Asks t timers due last dataRow aFree pfcRow wanted free span →
+      Group c Mine Asks t' timers' (dueBy refresh t' due) last dataRow aFree pfcRow wanted free span
+  group-passed t' timers' refresh h e m i (Group.calm g) = Group.calm g
+  group-passed t' timers' refresh h e m i (Group.wanted g) =
+      Group.wanted (in-mode g (mode-passed t' timers' refresh h e (m .refreshed) (i refl) (g .mode)))
 
-  -- kind 02: A starts a frame, of the group only while its timer is 0
-  pub group-sent : {dataRow : List DataFrame} {pfcRow : List PfcFrame} {wanted : Bool} {free span bFree : ℕ} (f : DataFrame) →
-      Marked c t bFree due last wanted → ToA c t bFree pfcRow → aFree ≤ t → f .length ≤ c .M → f .end ≡ t + (f .length + 20) →
-      (Mine (f .priority) → timer ≡ 0) → Group c Mine Asks t timer due last dataRow aFree pfcRow wanted free span →
-      Group c Mine Asks t timer due last (dataRow ++ (f ∷ [])) (f .end) pfcRow wanted free span
+  -- kind 02: A starts a frame, of a priority of the group only while its timer is 0
+  pub group-sent : {dataRow pfcRow : List Frame} {wanted : Bool} {free span bFree : ℕ} (f : Frame) →
+      Marked c t bFree due last wanted → ToA c t bFree pfcRow → aFree ≤ t → lengthOf f ≤ c .M → f .end ≡ t + (lengthOf f + 20) →
+      timers (priorityOf f) ≡ 0 → Group c Mine Asks t timers due last dataRow aFree pfcRow wanted free span →
+      Group c Mine Asks t timers due last (dataRow ++ (f ∷ [])) (f .end) pfcRow wanted free span
   group-sent f m a idle l e none (Group.calm g) = Group.calm g
   group-sent {dataRow} f m a idle l e none (Group.wanted g) =
       Group.wanted
       (record {
         stop = g .stop;
         base = g .base;
-        follows = Rows.follows-started (c .M) (g .base) dataRow aFree f (g .follows) l (omega arith);
+        follows = Rows.follows-started lengthOf (g .base) dataRow aFree f (g .follows) (omega arith);
         arriving = g .arriving;
-        ends = Rows.end-by-started Mine (g .stop + W c) dataRow f (g .ends) (λ mine. let by = sends-by-stop m a (none mine) (g .mode) in omega arith);
+        ends = Rows.each-started _ dataRow f (g .ends) (λ mine. let by = sends-by-stop (priorityOf f) m a mine none (g .mode) in omega arith);
         fitting = g .fitting;
         mode = g .mode;
       })
 
   -- kinds 03 and 07: a mark changes, or none does
-  wanted-on : {dataRow : List DataFrame} {pfcRow : List PfcFrame} {free span bFree : ℕ} (changed : Bool) → Marked c t bFree due last true →
-      Wanted c Mine Asks t timer due last dataRow aFree pfcRow free span →
-      Wanted c Mine Asks t timer (dueOn changed t due) last dataRow aFree pfcRow free span
+  wanted-on : {dataRow pfcRow : List Frame} {free span bFree : ℕ} (changed : Bool) → Marked c t bFree due last true →
+      Wanted c Mine Asks t timers due last dataRow aFree pfcRow free span →
+      Wanted c Mine Asks t timers (dueOn changed t due) last dataRow aFree pfcRow free span
   wanted-on changed m g = in-mode g (mode-on changed (m .refreshed) (g .mode))
 
   -- a group that is not wanted does not look at it
-  pub group-on : {dataRow : List DataFrame} {pfcRow : List PfcFrame} {wanted : Bool} {free span bFree : ℕ} (changed : Bool) →
-      Marked c t bFree due last wanted → Group c Mine Asks t timer due last dataRow aFree pfcRow wanted free span →
-      Group c Mine Asks t timer (dueOn changed t due) last dataRow aFree pfcRow wanted free span
+  pub group-on : {dataRow pfcRow : List Frame} {wanted : Bool} {free span bFree : ℕ} (changed : Bool) →
+      Marked c t bFree due last wanted → Group c Mine Asks t timers due last dataRow aFree pfcRow wanted free span →
+      Group c Mine Asks t timers (dueOn changed t due) last dataRow aFree pfcRow wanted free span
   group-on changed m (Group.calm g) = Group.calm g
   group-on changed m (Group.wanted g) = Group.wanted (wanted-on changed m g)
 
   -- kind 05: B starts the PFC frame, which asks T where the group is wanted
-  pub group-started : {dataRow : List DataFrame} {pfcRow : List PfcFrame} {wanted : Bool} {free span bFree : ℕ} (f : PfcFrame) (since : ℕ) →
-      due ≡ At since → Marked c t bFree due last wanted → f .end ≡ t + 84 → (wanted ≡ true → Asks f) →
-      Group c Mine Asks t timer due last dataRow aFree pfcRow wanted free span →
-      Group c Mine Asks t timer Never (At t) dataRow aFree (pfcRow ++ (f ∷ [])) wanted free span
+  pub group-started : {dataRow pfcRow : List Frame} {wanted : Bool} {free span bFree : ℕ} (f : Frame) (since : ℕ) →
+      due ≡ at since → Marked c t bFree due last wanted → f .end ≡ t + 84 → (wanted ≡ true → Asks f) →
+      Group c Mine Asks t timers due last dataRow aFree pfcRow wanted free span →
+      Group c Mine Asks t timers Never (at t) dataRow aFree (pfcRow ++ (f ∷ [])) wanted free span
   group-started f since is m e asks (Group.calm g) = Group.calm g
   group-started {pfcRow = pfcRow} {bFree = bFree} f since is m e asks (Group.wanted g) =
       Group.wanted
       (in-mode g
       (mode-started bFree f (subst (λ (d : Moment). DueInTime c t bFree d) is (m .due-time)) e (asks refl)
-      (subst (λ (d : Moment). Mode c Asks t timer d last pfcRow (g .stop)) is (g .mode))))
+      (subst (λ (d : Moment). Mode c Mine Asks t timers d last pfcRow (g .stop)) is (g .mode))))
 
-  -- kind 06: the oldest PFC frame takes effect, which sets the timer to T where it asks so
-  pub group-took : {dataRow : List DataFrame} {f : PfcFrame} {rest : List PfcFrame} {wanted : Bool} {free span : ℕ} (timer' : ℕ) → Sound c →
-      f .end ≤ t → (Asks f → timer' ≡ c .T) → Group c Mine Asks t timer due last dataRow aFree (f ∷ rest) wanted free span →
-      Group c Mine Asks t timer' due last dataRow aFree rest wanted free span
-  group-took timer' sound h set (Group.calm g) = Group.calm g
-  group-took timer' sound h set (Group.wanted g) = Group.wanted (in-mode g (mode-took timer' sound h set (g .mode)))
+  -- kind 06: the oldest PFC frame takes effect, which sets the group's timers to T where it asks so
+  pub group-took : {dataRow : List Frame} {f : Frame} {rest : List Frame} {wanted : Bool} {free span : ℕ} (timers' : ℕ → ℕ) → Sound c →
+      f .end ≤ t → (Asks f → (n : ℕ) → Mine n → timers' n ≡ c .T) → Group c Mine Asks t timers due last dataRow aFree (f ∷ rest) wanted free span →
+      Group c Mine Asks t timers' due last dataRow aFree rest wanted free span
+  group-took timers' sound h set (Group.calm g) = Group.calm g
+  group-took timers' sound h set (Group.wanted g) = Group.wanted (in-mode g (mode-took timers' sound h set (g .mode)))
 
   -- kind 07: octets of the group are taken, and the mark is as it then is
-  pub own-taken : {dataRow : List DataFrame} {pfcRow : List PfcFrame} {wanted : Bool} {free span bFree : ℕ} (free' : ℕ) (wanted' : Bool) →
+  pub own-taken : {dataRow pfcRow : List Frame} {wanted : Bool} {free span bFree : ℕ} (free' : ℕ) (wanted' : Bool) →
       free ≤ free' → (wanted' ≡ false → H c + c .M ≤ free') → (wanted ≡ false → wanted' ≡ false) → Marked c t bFree due last wanted →
-      Group c Mine Asks t timer due last dataRow aFree pfcRow wanted free span →
-      Group c Mine Asks t timer (dueOn (differ wanted wanted') t due) last dataRow aFree pfcRow wanted' free' (spanKept wanted' span)
+      Group c Mine Asks t timers due last dataRow aFree pfcRow wanted free span →
+      Group c Mine Asks t timers (dueOn (differ wanted wanted') t due) last dataRow aFree pfcRow wanted' free' (spanKept wanted' span)
   unfolding spanKept pick
   own-taken free' false more enough off m g = Group.calm (enough refl)
   own-taken free' true more enough off m (Group.calm g) = let z : _≡_ {A = ℕ} 0 1 = cc (off refl) in absurd (omega arith)
   own-taken free' true more enough off m (Group.wanted g) =
       Group.wanted {free = free'}
       (wanted-on (differ true true) m
-      (record { stop = g .stop; base = g .base; follows = g .follows; arriving = g .arriving; ends = g .ends; fitting = omega (arith, g .fitting); mode = g .mode }))
+      (record {
+        stop = g .stop;
+        base = g .base;
+        follows = g .follows;
+        arriving = g .arriving;
+        ends = g .ends;
+        fitting = omega (arith, g .fitting);
+        mode = g .mode;
+      }))
 
 -- since when PFC is due once a mark has changed
 since : ℕ → Moment → ℕ
 since t Never = t
-since t (At d) = d
+since t (At d) = d .0
 
 -- no later than now, and A can be stopped in time
 since-known : (c : Terms) (t bFree : ℕ) (due : Moment) → DueInTime c t bFree due →
@@ -109,70 +121,73 @@ since-known c t bFree Never h = (omega arith, omega arith, omega arith)
 since-known c t bFree (At d) h = (omega arith, omega arith, omega arith)
 
 -- kind 03: the oldest data frame arrives
-module _ {c : Terms} {Mine : ℕ → Type 0} {Asks : PfcFrame → Type 0} {t timer : ℕ} {due last : Moment} {f : DataFrame} {rest : List DataFrame} {aFree : ℕ} {pfcRow : List PfcFrame} where
+module _ {c : Terms} {Mine : ℕ → Type 0} {Asks : Frame → Type 0} {t : ℕ} {timers : ℕ → ℕ} {due last : Moment} {f : Frame} {rest : List Frame} {aFree : ℕ}
+    {pfcRow : List Frame} where
   -- the wanted group behind it: what arrives from its end on, beside a new span count, is within the headroom
-  behind : {free span : ℕ} (free' span' : ℕ) (g : Wanted c Mine Asks t timer due last (f ∷ rest) aFree pfcRow free span) →
-      span' + ((g .stop + W c) - f .end) ≤ H c → H c ≤ free' + span' → Wanted c Mine Asks t timer due last rest aFree pfcRow free' span'
+  behind : {free span : ℕ} (free' span' : ℕ) (g : Wanted c Mine Asks t timers due last (f ∷ rest) aFree pfcRow free span) →
+      span' + ((g .stop + W c) - f .end) ≤ H c → H c ≤ free' + span' → Wanted c Mine Asks t timers due last rest aFree pfcRow free' span'
   behind free' span' g most fits =
-      record { stop = g .stop; base = f .end; follows = g .follows .2; arriving = most; ends = g .ends .1; fitting = fits; mode = g .mode }
+      record { stop = g .stop; base = f .end; follows = g .follows .1; arriving = most; ends = g .ends .1; fitting = fits; mode = g .mode }
 
   -- of another group
-  pub other-arrives : {wanted : Bool} {free span : ℕ} → Group c Mine Asks t timer due last (f ∷ rest) aFree pfcRow wanted free span →
-      Group c Mine Asks t timer due last rest aFree pfcRow wanted free span
+  pub other-arrives : {wanted : Bool} {free span : ℕ} → Group c Mine Asks t timers due last (f ∷ rest) aFree pfcRow wanted free span →
+      Group c Mine Asks t timers due last rest aFree pfcRow wanted free span
   other-arrives (Group.calm g) = Group.calm g
   other-arrives {free = free} {span = span} (Group.wanted g) =
-      let from = g .follows .1 in Group.wanted (behind free span g (omega (arith, g .arriving)) (g .fitting))
+      let from = g .follows .0 in Group.wanted (behind free span g (omega (arith, g .arriving)) (g .fitting))
 
   -- of a wanted group: it is within what can still arrive
-  span-fits : {free span : ℕ} → Mine (f .priority) → Wanted c Mine Asks t timer due last (f ∷ rest) aFree pfcRow free span →
-      span + f .length + 20 ≤ H c
-  span-fits mine g = let by = g .ends .0 mine in let from = g .follows .1 in omega (arith, g .arriving)
+  span-fits : {free span : ℕ} → Mine (priorityOf f) → Wanted c Mine Asks t timers due last (f ∷ rest) aFree pfcRow free span →
+      span + lengthOf f + 20 ≤ H c
+  span-fits mine g = let by = g .ends .0 mine in let from = g .follows .0 in omega (arith, g .arriving)
 
   -- so it fits
-  pub group-fits : {wanted : Bool} {free span : ℕ} → Mine (f .priority) → f .length ≤ c .M →
-      Group c Mine Asks t timer due last (f ∷ rest) aFree pfcRow wanted free span → f .length ≤ free
+  pub group-fits : {wanted : Bool} {free span : ℕ} → Mine (priorityOf f) → lengthOf f ≤ c .M →
+      Group c Mine Asks t timers due last (f ∷ rest) aFree pfcRow wanted free span → lengthOf f ≤ free
   group-fits mine l (Group.calm g) = omega arith
   group-fits mine l (Group.wanted g) = let h = span-fits mine g in omega (arith, g .fitting)
 
   -- and the span count, which does not saturate, stays within the headroom
-  pub span-then : {wanted : Bool} {free span : ℕ} → Sound c → Mine (f .priority) →
-      Group c Mine Asks t timer due last (f ∷ rest) aFree pfcRow wanted free span → spanAfter wanted span (f .length) ≤ H c
+  pub span-then : {wanted : Bool} {free span : ℕ} → Sound c → Mine (priorityOf f) →
+      Group c Mine Asks t timers due last (f ∷ rest) aFree pfcRow wanted free span → spanAfter wanted span (lengthOf f) ≤ H c
   unfolding spanAfter pick
   span-then sound mine (Group.calm g) = omega arith
   span-then sound mine (Group.wanted g) = omega (arith, span-fits mine g)
 
   -- it arrives in the span: what can still arrive falls by as much as the span rises
-  in-span : {free span bFree : ℕ} (free' : ℕ) → Sound c → Mine (f .priority) → free ≡ free' + f .length → Marked c t bFree due last true →
-      Wanted c Mine Asks t timer due last (f ∷ rest) aFree pfcRow free span →
-      Wanted c Mine Asks t timer (dueOn (differ true true) t due) last rest aFree pfcRow free' (spanAfter true span (f .length))
+  in-span : {free span bFree : ℕ} (free' : ℕ) → Sound c → Mine (priorityOf f) → free ≤ free' + lengthOf f → Marked c t bFree due last true →
+      Wanted c Mine Asks t timers due last (f ∷ rest) aFree pfcRow free span →
+      Wanted c Mine Asks t timers (dueOn (differ true true) t due) last rest aFree pfcRow free' (spanAfter true span (lengthOf f))
   unfolding spanAfter pick
   in-span {span = span} free' sound mine e m g =
-      let by = g .ends .0 mine in let from = g .follows .1 in
-      let same : within64 (span + f .length) ≡ span + f .length = omega (arith, span-fits mine g, sound .small-room) in
-      wanted-on (differ true true) m (behind free' (within64 (span + f .length)) g (rw same (omega (arith, g .arriving))) (rw same (omega (arith, g .fitting))))
+      let by = g .ends .0 mine in let from = g .follows .0 in
+      let same : within64 (span + lengthOf f) ≡ span + lengthOf f = omega (arith, span-fits mine g, sound .small-room) in
+      wanted-on (differ true true) m
+      (behind free' (within64 (span + lengthOf f)) g (rw same (omega (arith, g .arriving))) (rw same (omega (arith, g .fitting))))
 
   -- it crosses the mark
   crossing : {wanted : Bool} {bFree : ℕ} (free' : ℕ) → H c ≤ free' → ToB c t aFree (f ∷ rest) → Marked c t bFree due last wanted →
-      Wanted c Mine Asks t timer (dueOn true t due) last rest aFree pfcRow free' 0
+      Wanted c Mine Asks t timers (dueOn true t due) last rest aFree pfcRow free' 0
+  unfolding oldestEnd
   crossing {bFree = bFree} free' left to m =
       let known = since-known c t bFree due (m .due-time) in
-      let in-time = to .in-time in let wire = to .wire in
+      let in-time = to .underway .in-time in let wire = to .wire in
       record {
         stop = since t due + O c + lost c;
         base = f .end;
-        follows = to .follows .2;
+        follows = to .underway .follows .1;
         arriving = omega arith;
-        ends = Rows.end-by-free Mine (since t due + O c + lost c + W c) (c .M) (f .end) rest aFree (to .follows .2) (omega arith);
+        ends = Rows.ends-by-free lengthOf _ (since t due + O c + lost c + W c) (f .end) rest aFree (to .underway .follows .1) (omega arith);
         fitting = omega arith;
         mode = Mode.waiting (known .2);
       }
 
   -- of the group, and the mark is as it then is
-  pub own-arrives : {wanted : Bool} {free span bFree : ℕ} (free' : ℕ) (wanted' : Bool) → Sound c → Mine (f .priority) → free ≡ free' + f .length →
+  pub own-arrives : {wanted : Bool} {free span bFree : ℕ} (free' : ℕ) (wanted' : Bool) → Sound c → Mine (priorityOf f) → free ≤ free' + lengthOf f →
       (wanted' ≡ false → H c + c .M ≤ free') → ToB c t aFree (f ∷ rest) → Marked c t bFree due last wanted →
-      Group c Mine Asks t timer due last (f ∷ rest) aFree pfcRow wanted free span →
-      Group c Mine Asks t timer (dueOn (differ wanted wanted') t due) last rest aFree pfcRow wanted' free' (spanAfter wanted span (f .length))
+      Group c Mine Asks t timers due last (f ∷ rest) aFree pfcRow wanted free span →
+      Group c Mine Asks t timers (dueOn (differ wanted wanted') t due) last rest aFree pfcRow wanted' free' (spanAfter wanted span (lengthOf f))
   unfolding differ spanAfter pick
   own-arrives free' false sound mine e enough to m g = Group.calm (enough refl)
-  own-arrives free' true sound mine e enough to m (Group.calm g) = Group.wanted (crossing free' (omega (arith, to .follows .0)) to m)
+  own-arrives free' true sound mine e enough to m (Group.calm g) = Group.wanted (crossing free' (omega (arith, to .most .0)) to m)
   own-arrives free' true sound mine e enough to m (Group.wanted g) = Group.wanted (in-span free' sound mine e m g)

@@ -1,8 +1,7 @@
 -- The theorems about whole runs (`NoLoss`, `Program`, `Progress`), and what they stand on.
-pub mod Accepting
 pub mod Asking
 pub mod Clearing
-pub mod Counters
+pub mod Contract
 pub mod Counting
 pub mod Group
 pub mod GroupSteps
@@ -18,7 +17,6 @@ pub mod Passing
 pub mod Program
 pub mod Progress
 pub mod Refusals
-pub mod Rooms
 pub mod Rows
 pub mod Run
 pub mod Terms

@@ -7,13 +7,14 @@ use native.Mathlib.Nat.{lt-of-lt-of-le}
 use native.Mathlib.Omega.{arith}
 use lib.Dec.{leb}
 use Rattle.ground.specs.Pick.{pick}
-use Rattle.recorder.specs.declared.watch.Moment.{Moment}
-use Rattle.recorder.specs.declared.watch.Moment.the-variants.{Never, At}
-use Rattle.recorder.specs.Watching.{dueOn, dueBy}
-use Rattle.bench_steps.specs.State.{PfcFrame}
+use Rattle.moments.specs.declared.Moment.{Moment}
+use Rattle.moments.specs.declared.Moment.the-variants.{Never, At}
+use Rattle.moments.specs.Moments.{at, dueOn, dueBy}
+use Rattle.bench_meaning.specs.State.{Frame}
+use Rattle.bench_meaning.specs.Step.{oldestEnd}
 use Rattle.no_loss.proofs.Terms.{Terms, Sound, K, lost}
 use Rattle.no_loss.proofs.Rows
-use Rattle.no_loss.proofs.Rows.{PfcInTime, Spaced}
+use Rattle.no_loss.proofs.Rows.{pfcLength, Follows, InTime}
 use Rattle.no_loss.proofs.Link.{DueInTime, Refreshed, RefreshIs, ToA, Marked}
 use Rattle.no_loss.proofs.Group.{Waits, Prompt, EndedBy, Current, Asking, Mode}
 
@@ -24,24 +25,22 @@ module _ (c : Terms) where
   prompt-on true t Never Never r h = r
   prompt-on true t Never (At m) r h = omega arith
   prompt-on false t Never last r h = tt
-  prompt-on true t (At d) last r h = h
-  prompt-on false t (At d) last r h = h
+  prompt-on changed t (At d) last r h = h
 
   -- PFC that is due stays due since its first moment
   waits-on : (changed : Bool) (t stop : ℕ) (due : Moment) → Waits c due stop → Waits c (dueOn changed t due) stop
   unfolding dueOn
   waits-on changed t stop Never h = absurd h
-  waits-on true t stop (At d) h = h
-  waits-on false t stop (At d) h = h
+  waits-on changed t stop (At d) h = h
 
   -- so does the refresh, as time passes
-  prompt-by : (refresh : Moment) (t m : ℕ) → refresh ≡ At (m + c .I) → Prompt c (dueBy refresh t Never) (At m)
+  prompt-by : (refresh : Moment) (t m : ℕ) → refresh ≡ at (m + c .I) → Prompt c (dueBy refresh t Never) (at m)
   unfolding dueBy pick
   prompt-by Never t m e = tt
-  prompt-by (At r) t m e = go (leb r t)
+  prompt-by (At r) t m e = go (leb (r .0) t)
     where
-      go : (b : Bool) → Prompt c (pick b (At r) Never) (At m)
-      go true = let same : r ≡ m + c .I = cc in omega arith
+      go : (b : Bool) → Prompt c (pick b (At r) Never) (at m)
+      go true = let same : r .0 ≡ m + c .I = cc in omega arith
       go false = tt
 
   -- the refresh falls due no later than it is dated
@@ -49,7 +48,7 @@ module _ (c : Terms) where
       Prompt c (dueBy refresh t' due) last
   unfolding dueBy
   prompt-passed t t' Never Never refresh r i q = absurd r
-  prompt-passed t t' Never (At m) refresh r i q = prompt-by refresh t' m i
+  prompt-passed t t' Never (At m) refresh r i q = prompt-by refresh t' (m .0) i
   prompt-passed t t' (At d) last refresh r i q = q
 
   -- time passing does not change since when PFC is due
@@ -64,23 +63,24 @@ module _ (c : Terms) where
   waits-ahead t bFree stop (At since) d h = omega arith
 
   -- the moment at which a timer would run out does not move as time passes
-  timer-passed : (t t' timer : ℕ) → t ≤ t' → 64 * (t / 64 + timer) ≤ 64 * (t' / 64 + (timer - (t' / 64 - t / 64)))
-  timer-passed t t' timer h = omega arith
+  timer-passed : (t t' timer timer' : ℕ) → t ≤ t' → timer' ≡ timer - (t' / 64 - t / 64) → 64 * (t / 64 + timer) ≤ 64 * (t' / 64 + timer')
+  timer-passed t t' timer timer' h e = omega arith
 
   -- a timer set to T runs out later than the next PFC frame takes effect
   runs-out-later : Sound c → (t end : ℕ) → end ≤ t → end + K c + c .P + lost c < 64 * (t / 64 + c .T)
   runs-out-later sound t end h = omega (arith, sound .holds)
 
   -- a PFC frame that starts in time ends within K of the one before
-  close-enough : (t bFree since end : ℕ) (last : Moment) → DueInTime c t bFree (At since) → end ≡ t + 84 → Prompt c (At since) last → (e : ℕ) →
+  close-enough : (t bFree since end : ℕ) (last : Moment) → DueInTime c t bFree (at since) → end ≡ t + 84 → Prompt c (at since) last → (e : ℕ) →
       EndedBy last e → end ≤ e + K c
   close-enough t bFree since end Never d z q e h = absurd h
   close-enough t bFree since end (At m) d z q e h = omega arith
 
-module _ (c : Terms) (Asks : PfcFrame → Type 0) where
+module _ (c : Terms) (Asks : Frame → Type 0) where
   -- the moment by which the next PFC frame takes effect has not passed
-  next-ahead : (t bFree end : ℕ) (due last : Moment) (row : List PfcFrame) → DueInTime c t bFree due → Refreshed c t true due last →
-      PfcInTime (c .P) t row → Current c Asks last end row → Prompt c due last → t ≤ end + K c + c .P
+  next-ahead : (t bFree end : ℕ) (due last : Moment) (row : List Frame) → DueInTime c t bFree due → Refreshed c t true due last →
+      InTime (c .P) t row → Current c Asks last end row → Prompt c due last → t ≤ end + K c + c .P
+  unfolding oldestEnd
   next-ahead t bFree end Never Never [] d r p u q = absurd r
   next-ahead t bFree end Never (At m) [] d r p u q = omega arith
   next-ahead t bFree end (At since) Never [] d r p u q = absurd q
@@ -88,70 +88,77 @@ module _ (c : Terms) (Asks : PfcFrame → Type 0) where
   next-ahead t bFree end due last (f ∷ rest) d r p u q = omega (arith, u .1)
 
   -- an asking PFC frame under way takes effect by `stop`, which is still to come
-  asking-ahead : (t base bFree stop : ℕ) (last : Moment) (row : List PfcFrame) → Asking c Asks last stop row → PfcInTime (c .P) t row →
-      Spaced base row bFree → t ≤ stop
+  asking-ahead : (t base bFree stop : ℕ) (last : Moment) (row : List Frame) → Asking c Asks last stop row → InTime (c .P) t row →
+      Follows pfcLength base row bFree → t ≤ stop
+  unfolding oldestEnd
   asking-ahead t base bFree stop last (f ∷ rest) (Asking.here a h u) p s = omega arith
   asking-ahead t base bFree stop last (f ∷ rest) (Asking.later a) p s =
-      asking-ahead t (f .end) bFree stop last rest a (Rows.pfc-took-in-time (c .P) t (f .end) rest bFree p (s .1)) (s .1)
+      asking-ahead t (f .end) bFree stop last rest a (Rows.next-in-time pfcLength (c .P) t (f .end) rest bFree (omega arith) (s .1)) (s .1)
 
   -- B starts a PFC frame that asks T: the newest of a current row
-  current-started : (t end : ℕ) (last : Moment) (row : List PfcFrame) (f : PfcFrame) → Asks f → t + 84 ≤ f .end →
-      ((e : ℕ) → EndedBy last e → f .end ≤ e + K c) → Current c Asks last end row → Current c Asks (At t) end (row ++ (f ∷ []))
+  current-started : (t end : ℕ) (last : Moment) (row : List Frame) (f : Frame) → Asks f → t + 84 ≤ f .end →
+      ((e : ℕ) → EndedBy last e → f .end ≤ e + K c) → Current c Asks last end row → Current c Asks (at t) end (row ++ (f ∷ []))
   current-started t end last [] f a e h u = (a, h end u, e)
   current-started t end last (g ∷ rest) f a e h u = (u .0, u .1, current-started t (g .end) last rest f a e h (u .2))
 
   -- the same behind older frames
-  asking-started : (t stop : ℕ) (last : Moment) (row : List PfcFrame) (f : PfcFrame) → Asks f → t + 84 ≤ f .end →
-      ((e : ℕ) → EndedBy last e → f .end ≤ e + K c) → Asking c Asks last stop row → Asking c Asks (At t) stop (row ++ (f ∷ []))
+  asking-started : (t stop : ℕ) (last : Moment) (row : List Frame) (f : Frame) → Asks f → t + 84 ≤ f .end →
+      ((e : ℕ) → EndedBy last e → f .end ≤ e + K c) → Asking c Asks last stop row → Asking c Asks (at t) stop (row ++ (f ∷ []))
   asking-started t stop last (g ∷ rest) f a e h (Asking.here b l u) = Asking.here b l (current-started t (g .end) last rest f a e h u)
   asking-started t stop last (g ∷ rest) f a e h (Asking.later b) = Asking.later (asking-started t stop last rest f a e h b)
 
   -- the first frame that asks T, behind any older ones
-  asking-first : (t stop : ℕ) (row : List PfcFrame) (f : PfcFrame) → Asks f → t + 84 ≤ f .end → f .end + c .P + lost c ≤ stop →
-      Asking c Asks (At t) stop (row ++ (f ∷ []))
+  asking-first : (t stop : ℕ) (row : List Frame) (f : Frame) → Asks f → t + 84 ≤ f .end → f .end + c .P + lost c ≤ stop →
+      Asking c Asks (at t) stop (row ++ (f ∷ []))
   asking-first t stop [] f a e h = Asking.here a h e
   asking-first t stop (g ∷ rest) f a e h = Asking.later (asking-first t stop rest f a e h)
 
-module _ {c : Terms} {Asks : PfcFrame → Type 0} {t timer : ℕ} {due last : Moment} {pfcRow : List PfcFrame} {stop : ℕ} where
-  -- A sends frames of the group, whose timer is then 0, only until `stop`
-  pub sends-by-stop : {bFree : ℕ} → Marked c t bFree due last true → ToA c t bFree pfcRow → timer ≡ 0 → Mode c Asks t timer due last pfcRow stop →
-      t ≤ stop
-  sends-by-stop {bFree} m a z (Mode.waiting h) = waits-ahead c t bFree stop due (m .due-time) h
-  sends-by-stop {bFree} m a z (Mode.asked b q) = asking-ahead c Asks t 0 bFree stop last pfcRow b (a .in-time) (a .spaced)
-  sends-by-stop {bFree} m a z (Mode.stopped end u q h) =
-      let ahead = next-ahead c Asks t bFree end due last pfcRow (m .due-time) (m .refreshed) (a .in-time) u q in absurd (omega arith)
+module _ {c : Terms} {Mine : ℕ → Type 0} {Asks : Frame → Type 0} {t : ℕ} {timers : ℕ → ℕ} {due last : Moment} {pfcRow : List Frame} {stop : ℕ} where
+  -- A sends frames of a priority of the group, whose timer is then 0, only until `stop`
+  pub sends-by-stop : {bFree : ℕ} (n : ℕ) → Marked c t bFree due last true → ToA c t bFree pfcRow → Mine n → timers n ≡ 0 →
+      Mode c Mine Asks t timers due last pfcRow stop → t ≤ stop
+  sends-by-stop {bFree} n m a mine z (Mode.waiting h) = waits-ahead c t bFree stop due (m .due-time) h
+  sends-by-stop {bFree} n m a mine z (Mode.asked b q) = asking-ahead c Asks t 0 bFree stop last pfcRow b (a .underway .in-time) (a .underway .follows)
+  sends-by-stop {bFree} n m a mine z (Mode.stopped end u q h) =
+      let ahead = next-ahead c Asks t bFree end due last pfcRow (m .due-time) (m .refreshed) (a .underway .in-time) u q in
+      let later = h n mine in absurd (omega arith)
 
   -- a mark changes, or none does
-  pub mode-on : (changed : Bool) → Refreshed c t true due last → Mode c Asks t timer due last pfcRow stop →
-      Mode c Asks t timer (dueOn changed t due) last pfcRow stop
+  pub mode-on : (changed : Bool) → Refreshed c t true due last → Mode c Mine Asks t timers due last pfcRow stop →
+      Mode c Mine Asks t timers (dueOn changed t due) last pfcRow stop
   mode-on changed r (Mode.waiting h) = Mode.waiting (waits-on c changed t stop due h)
   mode-on changed r (Mode.asked a q) = Mode.asked a (prompt-on c changed t due last r q)
   mode-on changed r (Mode.stopped end u q h) = Mode.stopped end u (prompt-on c changed t due last r q) h
 
   -- time passes
-  pub mode-passed : (t' : ℕ) (refresh : Moment) → t ≤ t' → Refreshed c t true due last → RefreshIs c true last refresh →
-      Mode c Asks t timer due last pfcRow stop → Mode c Asks t' (timer - (t' / 64 - t / 64)) (dueBy refresh t' due) last pfcRow stop
-  mode-passed t' refresh h r i (Mode.waiting w) = Mode.waiting (waits-passed c t' stop due refresh w)
-  mode-passed t' refresh h r i (Mode.asked a q) = Mode.asked a (prompt-passed c t t' due last refresh r i q)
-  mode-passed t' refresh h r i (Mode.stopped end u q b) =
-      Mode.stopped end u (prompt-passed c t t' due last refresh r i q) (lt-of-lt-of-le b (timer-passed c t t' timer h))
+  pub mode-passed : (t' : ℕ) (timers' : ℕ → ℕ) (refresh : Moment) → t ≤ t' → ((n : ℕ) → Mine n → timers' n ≡ timers n - (t' / 64 - t / 64)) →
+      Refreshed c t true due last → RefreshIs c true last refresh →
+      Mode c Mine Asks t timers due last pfcRow stop → Mode c Mine Asks t' timers' (dueBy refresh t' due) last pfcRow stop
+  mode-passed t' timers' refresh h e r i (Mode.waiting w) = Mode.waiting (waits-passed c t' stop due refresh w)
+  mode-passed t' timers' refresh h e r i (Mode.asked a q) = Mode.asked a (prompt-passed c t t' due last refresh r i q)
+  mode-passed t' timers' refresh h e r i (Mode.stopped end u q b) =
+      Mode.stopped end u (prompt-passed c t t' due last refresh r i q)
+      (λ n mine. lt-of-lt-of-le (b n mine) (timer-passed c t t' (timers n) (timers' n) h (e n mine)))
 
 -- B starts the PFC frame, due since a moment, which asks T for the group
-pub mode-started : {c : Terms} {Asks : PfcFrame → Type 0} {t timer since : ℕ} {last : Moment} {pfcRow : List PfcFrame} {stop : ℕ} (bFree : ℕ)
-    (f : PfcFrame) →
-    DueInTime c t bFree (At since) → f .end ≡ t + 84 → Asks f → Mode c Asks t timer (At since) last pfcRow stop →
-    Mode c Asks t timer Never (At t) (pfcRow ++ (f ∷ [])) stop
-mode-started {c} {Asks} {t} {pfcRow = pfcRow} {stop = stop} bFree f d e a (Mode.waiting w) = Mode.asked (asking-first c Asks t stop pfcRow f a (omega arith) (omega arith)) tt
-mode-started {c} {Asks} {t} {since = since} {last = last} {pfcRow = pfcRow} {stop = stop} bFree f d e a (Mode.asked b q) =
+pub mode-started : {c : Terms} {Mine : ℕ → Type 0} {Asks : Frame → Type 0} {t since : ℕ} {timers : ℕ → ℕ} {last : Moment} {pfcRow : List Frame}
+    {stop : ℕ} (bFree : ℕ) (f : Frame) →
+    DueInTime c t bFree (at since) → f .end ≡ t + 84 → Asks f → Mode c Mine Asks t timers (at since) last pfcRow stop →
+    Mode c Mine Asks t timers Never (at t) (pfcRow ++ (f ∷ [])) stop
+mode-started {c} {Asks = Asks} {t = t} {pfcRow = pfcRow} {stop = stop} bFree f d e a (Mode.waiting w) =
+    Mode.asked (asking-first c Asks t stop pfcRow f a (omega arith) (omega arith)) tt
+mode-started {c} {Asks = Asks} {t = t} {since = since} {last = last} {pfcRow = pfcRow} {stop = stop} bFree f d e a (Mode.asked b q) =
     Mode.asked (asking-started c Asks t stop last pfcRow f a (omega arith) (close-enough c t bFree since (f .end) last d e q) b) tt
-mode-started {c} {Asks} {t} {since = since} {last = last} {pfcRow = pfcRow} bFree f d e a (Mode.stopped end u q h) =
+mode-started {c} {Asks = Asks} {t = t} {since = since} {last = last} {pfcRow = pfcRow} bFree f d e a (Mode.stopped end u q h) =
     Mode.stopped end (current-started c Asks t end last pfcRow f a (omega arith) (close-enough c t bFree since (f .end) last d e q) u) tt h
 
-module _ {c : Terms} {Asks : PfcFrame → Type 0} {t timer : ℕ} {due last : Moment} {f : PfcFrame} {rest : List PfcFrame} {stop : ℕ} where
+module _ {c : Terms} {Mine : ℕ → Type 0} {Asks : Frame → Type 0} {t : ℕ} {timers : ℕ → ℕ} {due last : Moment} {f : Frame} {rest : List Frame} {stop : ℕ} where
   -- the oldest PFC frame takes effect: of older ones nothing is asked; once it asks T, A is stopped
-  pub mode-took : (timer' : ℕ) → Sound c → f .end ≤ t → (Asks f → timer' ≡ c .T) → Mode c Asks t timer due last (f ∷ rest) stop →
-      Mode c Asks t timer' due last rest stop
-  mode-took timer' sound h set (Mode.waiting w) = Mode.waiting w
-  mode-took timer' sound h set (Mode.asked (Asking.later a) q) = Mode.asked a q
-  mode-took timer' sound h set (Mode.asked (Asking.here a l u) q) = Mode.stopped (f .end) u q (rw (set a) (runs-out-later c sound t (f .end) h))
-  mode-took timer' sound h set (Mode.stopped end u q b) = Mode.stopped (f .end) (u .2) q (rw (set (u .0)) (runs-out-later c sound t (f .end) h))
+  pub mode-took : (timers' : ℕ → ℕ) → Sound c → f .end ≤ t → (Asks f → (n : ℕ) → Mine n → timers' n ≡ c .T) →
+      Mode c Mine Asks t timers due last (f ∷ rest) stop → Mode c Mine Asks t timers' due last rest stop
+  mode-took timers' sound h set (Mode.waiting w) = Mode.waiting w
+  mode-took timers' sound h set (Mode.asked (Asking.later a) q) = Mode.asked a q
+  mode-took timers' sound h set (Mode.asked (Asking.here a l u) q) =
+      Mode.stopped (f .end) u q (λ n mine. rw (set a n mine) (runs-out-later c sound t (f .end) h))
+  mode-took timers' sound h set (Mode.stopped end u q b) =
+      Mode.stopped (f .end) (u .2) q (λ n mine. rw (set (u .0) n mine) (runs-out-later c sound t (f .end) h))

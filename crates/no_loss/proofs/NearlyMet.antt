@@ -6,36 +6,30 @@ use Prim.Native.Nat.{ℕ}
 use mathlib.Core.Bool.{true}
 use mathlib.Core.Path.{_≡_, refl}
 use mathlib.Core.List.{List, [], _∷_}
-use lib.ListN.{getD, replicate}
+use lib.ListN.{getD}
 use Rattle.ground.specs.Pick.{pick}
 use Rattle.ground.specs.Eight.{some}
 use Rattle.frame.specs.Read.{sizeRefusal, isAccepted, controlVerdict, wholeVerdict, verdict}
-use Rattle.headroom_sum.specs.Headroom.{keepRefusal}
-use Rattle.recorder.specs.declared.settings.Settings.{Settings}
-use Rattle.recorder.specs.Room.{heldAfter, droppedAfter, wantedAfter, spanAfter, spanKept, arrivedIn, takenFrom}
-use Rattle.recorder.specs.Settings.{isEnabled, someRoomBelow, someRoomAbove, houseRefusal, settingsRefusal, settling}
-use Rattle.recorder.specs.Watching.{emptyRoom, roomAt, limitsOf, differ, dueOn, withRoom, arrivedAt, takingRefusal, takenAt, someWanted, refreshFrom, refreshOf, dueBy, startedAt, withDue, timeFor, timesFor}
-use Rattle.records.specs.Records.{bodyLength, bodyOf, sizedRefusal, decoded}
-use Rattle.bench_steps.specs.Run.{runFrom, firstRefusal, settledBy, runOf}
-use Rattle.bench_steps.specs.Step.{lengthOutside, dataOverdue, pfcOverdue, pastDue, overrun, noDataEnded, noPfcEnded, notDue, waitRefusal, startDataRefusal, arriveRefusal, startOtherRefusal, startPfcRefusal, takeEffectRefusal, refusalOf, effectOf, waited, dataStarted, arrived, otherStarted, pfcStarted, tookEffect, octetsTaken, nextOf, stepOf}
+use Rattle.moments.specs.Moments.{isNever, isAhead, pastDue, dueOn, refreshFrom, dueBy}
+use Rattle.settings.specs.declared.Settings.{Settings}
+use Rattle.settings.specs.Settings.{isEnabled, someEnabled, numberOf, breaks, firstBroken, settingsRefusal, settling}
+use Rattle.settings.specs.Cases.{settings004}
+use Rattle.rooms.specs.Room.{heldAfter, droppedAfter, wantedAfter, spanAfter, spanKept, arrivedIn, takenFrom}
+use Rattle.recorder.specs.Watching.{roomAt, limitsOf, differ, withMark, withRoom, arrivedAt, takingRefusal, takenAt, refreshOf, startedAt, withDue}
+use Rattle.recorder.specs.Watching.{arrivedWith, refusalWith, takenWith, timeFor, timesFor}
 use Rattle.records.specs.declared.Record.{Record}
 use Rattle.records.specs.declared.Record.the-variants as record'
+use Rattle.records.specs.Records.{bodyLength, bodyOf, sizedRefusal, decoded}
+use Rattle.decisions.specs.Chains.{lengthOutside, waitNumber, startDataNumber, arriveNumber, startOtherNumber, startPfcNumber}
+use Rattle.bench_meaning.specs.Step.{oldestEnd, overrun, refusalOf, effectOf, nextOf, stepOf}
+use Rattle.bench_meaning.specs.Step.{waited, dataStarted, arrived, otherStarted, pfcStarted, tookEffect, octetsTaken}
+use Rattle.bench_meaning.specs.Run.{runFrom, firstRefusal, settledBy, runOf}
 use Rattle.no_loss.specs.Runs.{after, reached}
 
--- enabled 08, M 2000, generation 200, request path 49588, data path 43444, T 65535, I 100000, hysteresis 0, rooms 17779
+-- document 01's worked settings: enabled 08, M 2000, generation 200, request path 49588, data path 43444, T 65535, I 100000,
+-- hysteresis 0, rooms 17779
 abbrev pub example : Settings
-example =
-    record {
-      enabled = 8;
-      largest = 2000;
-      generation = record { 0 = 200 };
-      «request_path» = record { 0 = 49588 };
-      «data_path» = record { 0 = 43444 };
-      pause = 65535;
-      refresh = record { 0 = 100000 };
-      hysteresis = 0;
-      rooms = replicate 8 17779;
-    }
+example = settings004 65535 100000 17779
 
 -- A starts a frame of priority 3
 abbrev send : ℕ → Record
@@ -57,12 +51,22 @@ fullRun =
 
 -- the settings are accepted
 pub example-accepted : settingsRefusal example ≡ 0
-unfolding settingsRefusal houseRefusal keepRefusal someRoomBelow someRoomAbove some pick
+unfolding firstBroken breaks numberOf someEnabled some pick
 example-accepted = refl
 
+-- what a step computes with: to unfold this name is to unfold all of these
+steps : Unit {0}
+unfolding stepOf nextOf refusalOf waited dataStarted arrived otherStarted pfcStarted tookEffect octetsTaken effectOf oldestEnd overrun
+    waitNumber startDataNumber arriveNumber startOtherNumber startPfcNumber lengthOutside
+    isNever isAhead pastDue dueOn refreshFrom dueBy
+    limitsOf differ withMark withRoom arrivedWith arrivedAt refusalWith takingRefusal takenWith takenAt refreshOf startedAt withDue timeFor timesFor
+    heldAfter droppedAfter wantedAfter spanAfter spanKept arrivedIn takenFrom some isEnabled
+    sizeRefusal isAccepted controlVerdict wholeVerdict verdict pick
+steps = tt
+
 -- the worst of the run, and its time, which shows that no wait was refused
-pub nearly-met : (roomAt (reached example fullRun .recorder) 3 .worst ≡ 15619) × (reached example fullRun .now ≡ 23230)
-unfolding after stepOf nextOf refusalOf waitRefusal startDataRefusal arriveRefusal startOtherRefusal startPfcRefusal takeEffectRefusal lengthOutside dataOverdue pfcOverdue pastDue overrun noDataEnded noPfcEnded notDue effectOf waited dataStarted arrived otherStarted pfcStarted tookEffect octetsTaken heldAfter droppedAfter wantedAfter spanAfter spanKept arrivedIn takenFrom some isEnabled limitsOf differ dueOn withRoom arrivedAt takingRefusal takenAt someWanted refreshFrom refreshOf dueBy startedAt withDue timeFor timesFor sizeRefusal isAccepted controlVerdict wholeVerdict verdict pick
+pub nearly-met : (roomAt (reached example fullRun .recorder) 3 .worst ≡ 15619) × (reached example fullRun .clock ≡ 23230)
+unfolding after steps
 nearly-met = (refl, refl)
 
 -- the same settings and records as the octets of an input
@@ -78,6 +82,8 @@ fullInput =
     1 ∷ 7 ∷ 228 ∷ 3 ∷ 1 ∷ 7 ∷ 228 ∷ 3 ∷ []
 
 -- the program accepts all of them, and reports that worst for priority 3, which is enabled
-pub nearly-met-in-a-run : (getD (runOf fullInput .rooms) 3 emptyRoom .worst ≡ 15619) × (runOf fullInput .steps ≡ 40) × (runOf fullInput .refusal ≡ 0) × (isEnabled (runOf fullInput .enabled) 3 ≡ true)
-unfolding runOf settledBy firstRefusal settling settingsRefusal houseRefusal keepRefusal someRoomBelow someRoomAbove runFrom decoded bodyOf bodyLength sizedRefusal stepOf nextOf refusalOf waitRefusal startDataRefusal arriveRefusal startOtherRefusal startPfcRefusal takeEffectRefusal lengthOutside dataOverdue pfcOverdue pastDue overrun noDataEnded noPfcEnded notDue effectOf waited dataStarted arrived otherStarted pfcStarted tookEffect octetsTaken heldAfter droppedAfter wantedAfter spanAfter spanKept arrivedIn takenFrom some isEnabled limitsOf differ dueOn withRoom arrivedAt takingRefusal takenAt someWanted refreshFrom refreshOf dueBy startedAt withDue timeFor timesFor sizeRefusal isAccepted controlVerdict wholeVerdict verdict pick
+pub nearly-met-in-a-run : (getD (runOf fullInput .worst) 3 0 ≡ 15619) × (runOf fullInput .steps ≡ 40) × (runOf fullInput .refusal ≡ 0) ×
+    (isEnabled (runOf fullInput .enabled) 3 ≡ true)
+unfolding runOf settledBy firstRefusal settling firstBroken breaks numberOf someEnabled
+    runFrom decoded bodyOf bodyLength sizedRefusal steps
 nearly-met-in-a-run = (refl, refl, refl, refl)

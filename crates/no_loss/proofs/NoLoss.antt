@@ -7,8 +7,8 @@ use mathlib.Core.Bool.{true}
 use mathlib.Core.Path.{_≡_}
 use mathlib.Core.List.{List}
 use native.Mathlib.Omega.{arith}
-use Rattle.recorder.specs.declared.settings.Settings.{Settings}
-use Rattle.recorder.specs.Settings.{isEnabled, settingsRefusal}
+use Rattle.settings.specs.declared.Settings.{Settings}
+use Rattle.settings.specs.Settings.{isEnabled, settingsRefusal}
 use Rattle.records.specs.declared.Record.{Record}
 use Rattle.no_loss.specs.Runs.{watchOf, NothingLost}
 use Rattle.no_loss.proofs.Watches.{sound-watch}

@@ -22,9 +22,3 @@ pub neither : (first second : Bool) → pick first true second ≡ false → (fi
 unfolding pick
 neither true second e = let z : _≡_ {A = ℕ} 0 1 = cc in absurd (omega arith)
 neither false second e = (refl, e)
-
--- both of two tests hold
-pub both : (first second : Bool) → pick first second false ≡ true → (first ≡ true) × (second ≡ true)
-unfolding pick
-both true second e = (refl, e)
-both false second e = let z : _≡_ {A = ℕ} 0 1 = cc in absurd (omega arith)

@@ -5,30 +5,30 @@
 use Prim.Native.Nat.{_+_, _^_, _<_}
 use mathlib.Core.Path.{_≡_}
 use mathlib.Core.List.{List}
-use Rattle.recorder.specs.declared.settings.Settings.{Settings}
-use Rattle.recorder.specs.Settings.{settingsRefusal}
-use Rattle.bench_steps.specs.Step.{refusalOf, nextOf}
+use Rattle.settings.specs.declared.Settings.{Settings}
+use Rattle.settings.specs.Settings.{settingsRefusal}
 use Rattle.records.specs.declared.Record.{Record}
 use Rattle.records.specs.declared.Record.the-variants as record'
+use Rattle.bench_meaning.specs.Step.{refusalOf, nextOf}
 use Rattle.no_loss.specs.Runs.{watchOf, reached, Reaches}
 use Rattle.no_loss.proofs.Watches.{sound-watch}
 use Rattle.no_loss.proofs.Run.{inv-reached}
-use Rattle.no_loss.proofs.Accepting.{wait-accepted}
+use Rattle.no_loss.proofs.Refusals.{wait-accepted}
 use Rattle.no_loss.proofs.Waiting.{may-wait-zero, zero-changes-nothing}
 use Rattle.no_loss.proofs.Clearing.{clear}
 
-pub time-passes : (s : Settings) → settingsRefusal s ≡ 0 → s .pause < 65536 → (records : List Record) → reached s records .now < 2 ^ 40 →
-    Reaches (watchOf s) (reached s records) (reached s records .now + 1)
+pub time-passes : (s : Settings) → settingsRefusal s ≡ 0 → s .pause < 65536 → (records : List Record) → reached s records .clock < 2 ^ 40 →
+    Reaches (watchOf s) (reached s records) (reached s records .clock + 1)
 time-passes s accepted fits records early =
     let sound = sound-watch s accepted fits in
-    let e = reached s records in
-    clear (watchOf s) sound (e .now) early (e .head) (e .recorder) (e .aFree) (e .bFree) (e .dataRow) (e .pfcRow) (inv-reached (watchOf s) sound records)
+    clear (watchOf s) sound (reached s records) early (inv-reached (watchOf s) sound records)
 
 pub zero-wait : (s : Settings) → settingsRefusal s ≡ 0 → s .pause < 65536 → (records : List Record) →
-    (refusalOf (watchOf s) (reached s records) (record'.Wait 0) ≡ 0) × (nextOf (watchOf s) (reached s records) (record'.Wait 0) ≡ reached s records)
-unfolding refusalOf nextOf
+    (refusalOf (watchOf s) (reached s records) (record'.Wait 0) ≡ 0) ×
+    (nextOf (watchOf s) (reached s records) (record'.Wait 0) ≡ reached s records)
+unfolding nextOf
 zero-wait s accepted fits records =
+    let w = watchOf s in
     let sound = sound-watch s accepted fits in
-    let inv = inv-reached (watchOf s) sound records in
-    let e = reached s records in
-    (wait-accepted (watchOf s) e 0 (may-wait-zero (watchOf s) sound e inv), zero-changes-nothing (watchOf s) sound e inv)
+    let inv = inv-reached w sound records in
+    (wait-accepted w (reached s records) 0 (may-wait-zero w sound (reached s records) inv), zero-changes-nothing w sound (reached s records) inv)

@@ -1,18 +1,16 @@
 -- What accepted settings say of the numbers of the argument.
 use Prim.Native.Nat.{ℕ, _+_, _≤_, _<_}
 use mathlib.Core.Bool.{true}
-use mathlib.Core.Path.{_≡_, refl}
+use mathlib.Core.Path.{_≡_, refl, sym, subst}
 use native.Mathlib.Omega.{arith}
-use borrow.Author.Tests.{ltb-true}
-use Rattle.ground.specs.Eight.{isSet}
-use Rattle.recorder.specs.declared.settings.Settings.{Settings}
-use Rattle.recorder.specs.declared.watch.Watch.{Watch}
-use Rattle.recorder.specs.Settings.{isEnabled, roomOf, settingsRefusal}
+use Rattle.settings.specs.declared.Settings.{Settings}
+use Rattle.settings.specs.Settings.{isEnabled, roomOf, settingsRefusal}
+use Rattle.settings.proofs.Enabled.{enabled-set}
+use Rattle.settings.proofs.SettingsLaws.{enabled-below, accepted-facts}
+use Rattle.recorder.specs.declared.Watch.{Watch}
 use Rattle.recorder.specs.Watching.{limitsOf}
-use Rattle.recorder.proofs.SettingsLaws.{accepted-facts}
 use Rattle.no_loss.specs.Runs.{watchOf}
 use Rattle.no_loss.proofs.Terms.{Terms, Sound, W, H}
-use Rattle.no_loss.proofs.Passing.{both}
 
 -- the numbers of settings with their sums; no PFC frame is lost
 abbrev pub termsOf : Watch → Terms
@@ -27,23 +25,29 @@ termsOf w =
       losses = 0;
     }
 
+-- a priority is enabled
+abbrev pub Enabled : Watch → ℕ → Type 0
+Enabled w p = isEnabled (w .settings .enabled) p ≡ true
+
+-- it is one of the eight
+pub one-of-eight : (w : Watch) (p : ℕ) → Enabled w p → p < 8
+one-of-eight w p on = enabled-below (w .settings .enabled) p on
+
+-- the priorities that share the room of p: in document 01 it alone
+abbrev pub Shares : ℕ → ℕ → Type 0
+Shares p n = n ≡ p
+
+-- what is so of p is so of each that shares its room
+pub sharing : {p n : ℕ} (P : ℕ → Type 0) → Shares p n → P p → P n
+sharing P mine h = subst P (sym mine) h
+
 -- what accepted settings carry
 pub record SoundWatch (w : Watch) : Type 0 where
   pub terms : Sound (termsOf w)
   pub headroom : w .kept .headroom .0 ≡ H (termsOf w)
   pub wire : w .kept .wire .0 ≡ W (termsOf w)
   pub pause : w .settings .pause < 65536
-  pub enough : (p : ℕ) → isEnabled (w .settings .enabled) p ≡ true → H (termsOf w) + w .settings .largest ≤ roomOf (w .settings .rooms) p
-
--- an enabled priority is one of the eight, and its bit is set
-pub enabled-below : (enabled p : ℕ) → isEnabled enabled p ≡ true → p < 8
-unfolding isEnabled
-enabled-below enabled p e = ltb-true _ _ (both _ _ e .0)
-
--- its bit of the enabled octet is set
-pub enabled-set : (enabled p : ℕ) → isEnabled enabled p ≡ true → isSet enabled p ≡ true
-unfolding isEnabled
-enabled-set enabled p e = both _ _ e .1
+  pub enough : (p : ℕ) → Enabled w p → H (termsOf w) + w .settings .largest ≤ roomOf (w .settings .rooms) p
 
 -- accepted settings are sound
 pub sound-watch : (s : Settings) → settingsRefusal s ≡ 0 → s .pause < 65536 → SoundWatch (watchOf s)

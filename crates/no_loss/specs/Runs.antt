@@ -4,16 +4,16 @@ use mathlib.Core.List.{List, [], _∷_}
 use mathlib.Core.Path.{_≡_}
 use lib.Dec.{eqb}
 use Rattle.ground.specs.Pick.{pick}
-use Rattle.headroom_sum.specs.Keep.{kept}
-use Rattle.recorder.specs.declared.settings.Settings.{Settings}
-use Rattle.recorder.specs.declared.watch.Watch.{Watch}
-use Rattle.recorder.specs.Room.{fits}
-use Rattle.recorder.specs.Settings.{headroomOf}
+use Rattle.room_to_keep.specs.Keep.{kept}
+use Rattle.settings.specs.declared.Settings.{Settings}
+use Rattle.settings.specs.Settings.{headroomOf}
+use Rattle.rooms.specs.Room.{fits}
+use Rattle.recorder.specs.declared.Watch.{Watch}
 use Rattle.recorder.specs.Watching.{roomAt, limitsOf}
-use Rattle.bench_steps.specs.State.{DataFrame, State, empty}
-use Rattle.bench_steps.specs.Step.{refusalOf, stepOf}
 use Rattle.records.specs.declared.Record.{Record}
 use Rattle.records.specs.declared.Record.the-variants as record'
+use Rattle.bench_meaning.specs.State.{Frame, State, priorityOf, lengthOf, empty}
+use Rattle.bench_meaning.specs.Step.{refusalOf, stepOf}
 
 -- settings with the sums that they carry
 abbrev pub watchOf : Settings → Watch
@@ -34,15 +34,15 @@ AllAccepted w s [] = Unit
 AllAccepted w s (asked ∷ rest) = (refusalOf w s asked ≡ 0) × AllAccepted w (stepOf w s asked) rest
 
 -- the octets of a priority that the oldest data frame under way brings
-unfoldable pub oldestBrings : ℕ → List DataFrame → ℕ
+unfoldable pub oldestBrings : ℕ → List Frame → ℕ
 oldestBrings priority [] = 0
-oldestBrings priority (oldest ∷ rest) = pick (eqb (oldest .priority) priority) (oldest .length) 0
+oldestBrings priority (oldest ∷ rest) = pick (eqb (priorityOf oldest) priority) (lengthOf oldest) 0
 
 -- the octets of a priority that reach B where a record is accepted: only kind 03 brings any
 unfoldable pub brings : ℕ → State → Record → ℕ
 brings priority s (record'.Wait n) = 0
 brings priority s (record'.StartData started length) = 0
-brings priority s record'.Arrive = oldestBrings priority (s .dataRow)
+brings priority s record'.Arrive = oldestBrings priority (s .toB .row)
 brings priority s (record'.StartOther length) = 0
 brings priority s record'.StartPfc = 0
 brings priority s record'.TakeEffect = 0
@@ -63,7 +63,8 @@ droppedSum w priority s [] = 0
 droppedSum w priority s (asked ∷ rest) =
     notFitting w priority s (arriving w priority s asked) + droppedSum w priority (stepOf w s asked) rest
 
--- the octets that arrived in the present wanted span: what arrives while pause is wanted is added, and where it is not wanted the sum starts again
+-- the octets that arrived in the present wanted span: what arrives while pause is wanted is added, and where it is not wanted the sum
+-- starts again
 unfoldable pub spanSum : Watch → ℕ → State → ℕ → Record → ℕ
 spanSum w priority s span asked = pick (roomAt (s .recorder) priority .wanted) (span + arriving w priority s asked) 0
 
@@ -77,7 +78,8 @@ worstFrom w priority s span (asked ∷ rest) =
 abbrev pub worstSum : Watch → ℕ → State → List Record → ℕ
 worstSum w priority s records = worstFrom w priority s 0 records
 
--- a run loses nothing of a priority: its counters are the sums over the records, no octet is dropped, and no wanted span brings more than the headroom
+-- a run loses nothing of a priority: its counters are the sums over the records, no octet is dropped, and no wanted span brings more
+-- than the headroom
 pub record NothingLost (s : Settings) (records : List Record) (priority : ℕ) : Type 0 where
   pub dropped-counted : roomAt (reached s records .recorder) priority .dropped ≡ droppedSum (watchOf s) priority (empty (watchOf s)) records
   pub worst-counted : roomAt (reached s records .recorder) priority .worst ≡ worstSum (watchOf s) priority (empty (watchOf s)) records
@@ -88,4 +90,4 @@ pub record NothingLost (s : Settings) (records : List Record) (priority : ℕ) :
 pub record Reaches (w : Watch) (s : State) (time : ℕ) : Type 0 where
   pub records : List Record
   pub accepted : AllAccepted w s records
-  pub passes : after w s records .now ≡ time
+  pub passes : after w s records .clock ≡ time

@@ -1,152 +1,159 @@
--- What a room keeps, for any set of priorities that shares it: a room of one priority, one shared by all, one a PAUSE timer empties,
--- one a port. A mark of headroom + M leaves the headroom whole when the crossing frame is in; what is held, dropped and taken adds up
--- to what arrived; and the marks and the span move as document 01 says. For whoever shows that no frame is dropped. Each law names
--- what it assumes of the limits; the counts are those of a 64-bit number, so the sums assume less than 2^64 octets.
-use Prim.Native.Nat.{ℕ, _+_, _-_, _^_, _≤_, _<_, max}
-use mathlib.Core.Path.{_≡_, refl, sym, _∙_}
+-- The rooms and marks of a recorder in which one room changed: that room is the one put, every other is as before, and something is
+-- wanted as before where its mark did not change. With accepted settings the marks are cut off nowhere. Each law assumes what it states.
+use Prim.Native.Nat.{ℕ, _<_, _≤_}
+use mathlib.Core.Path.{_≡_, refl, sym, ap, _∙_, subst}
 use mathlib.Core.Bool.{Bool, true, false, false≢true}
-use mathlib.Core.List.{List, [], _∷_}
+use mathlib.Core.List.{List, []}
 use native.Mathlib.Omega.{arith}
-use lib.Dec.{ltb, leb}
-use borrow.Author.Tests.{ltb-false, lt-ltb, le-ltb, le-leb, lt-leb, leb-true}
+use borrow.Author.Tests.{eqb-true, eqb-false}
+use lib.Dec.{eqb}
+use lib.ListN.{length, getD, set, length-set}
+use lib.Seq.{ext-getD, getD-set-same, getD-set-other}
 use Rattle.ground.specs.Pick.{pick}
-use Rattle.ground.proofs.Pick.{pick-yes, pick-no}
-use Rattle.units.specs.Units.{within64}
-use Rattle.recorder.specs.Room.{freeOf, fits, heldAfter, droppedAfter, wantedAfter, spanAfter, spanKept, arrivedIn, takenFrom}
-use Rattle.recorder.specs.RoomRun.{Marked, NotWantedFree, HeldWithin, RoomEvent, afterEvent, afterRun, TakesHeld, arrivedSum, takenSum}
-use Rattle.recorder.specs.RoomRun.RoomEvent.{arrival, taking}
-use Rattle.recorder.specs.RoomRun.TakesHeld.{ends, arrives, takes}
-use Rattle.recorder.specs.Watching.{emptyRoom}
-use Rattle.recorder.specs.declared.room.Room.{Room}
-use Rattle.recorder.specs.declared.room.Limits.{Limits}
+use Rattle.ground.specs.Eight.{eight, isSet, some}
+use Rattle.ground.proofs.Eight.{getD-eight, eight-of-list, some-here, some-none, some-found}
+use Rattle.rooms.specs.Room.{emptyRoom, roomIn, numbersOf}
+use Rattle.rooms.specs.RoomRun.{Marked}
+use Rattle.rooms.specs.declared.Limits.{Limits}
+use Rattle.rooms.specs.declared.Room.{Room}
+use Rattle.room_to_keep.specs.declared.Kept.{Kept}
+use Rattle.settings.specs.Settings.{headroomOf, settingsRefusal}
+use Rattle.settings.proofs.Settled.{keptFor}
+use Rattle.settings.proofs.SettingsLaws.{accepted-facts}
+use Rattle.recorder.specs.Watching.{Recorder, fresh, roomAt, wantedAt, limitsOf, differ, withMark, withRoom, someWanted}
+use Rattle.recorder.specs.Watching.{arrivedWith, takenWith, leavesWith}
+use Rattle.recorder.specs.declared.Marks.{Marks}
+use Rattle.recorder.specs.declared.Watch.{Watch}
 
-module _ (limits : Limits) (free : ℕ) (before : Bool) where
-  -- "pause becomes wanted when free room < headroom + M"
-  pub wanted-below-mark : free < limits .mark → wantedAfter limits free before ≡ true
-  unfolding wantedAfter
-  wanted-below-mark below = pick-yes _ _ (lt-ltb _ _ below)
+-- two marks do not differ where they are the same, and only there
+pub differ-same : (mark : Bool) → differ mark mark ≡ false
+unfolding differ
+differ-same true = refl
+differ-same false = refl
 
-  -- "it stops being wanted when free room ≥ headroom + M + hysteresis"
-  pub ends-from-resume : limits .mark ≤ limits .resume → limits .resume ≤ free → wantedAfter limits free before ≡ false
-  unfolding wantedAfter
-  ends-from-resume ordered above = pick-no _ _ (le-ltb free (limits .mark) (omega arith)) ∙ pick-yes _ _ (le-leb _ _ above)
+pub differ-other : (was is : Bool) → (was ≡ is → ⊥) → differ was is ≡ true
+unfolding differ
+differ-other true true apart = absurd (apart refl)
+differ-other true false apart = refl
+differ-other false true apart = refl
+differ-other false false apart = absurd (apart refl)
 
-  -- "between the two it stays"
-  pub stays-between : limits .mark ≤ free → free < limits .resume → wantedAfter limits free before ≡ before
-  unfolding wantedAfter
-  stays-between from below = pick-no _ _ (le-ltb _ _ from) ∙ pick-no _ _ (lt-leb _ _ below)
+pub differ-none : (was is : Bool) → differ was is ≡ false → was ≡ is
+unfolding differ
+differ-none true true none = refl
+differ-none true false none = absurd (false≢true (sym none))
+differ-none false true none = absurd (false≢true (sym none))
+differ-none false false none = refl
 
-  -- not wanted once the marks were tried: the mark's octets are free
-  pub free-unless-wanted : wantedAfter limits free before ≡ false → limits .mark ≤ free
-  unfolding wantedAfter pick
-  free-unless-wanted = go (ltb free (limits .mark)) refl
-    where
-      go : (b : Bool) → ltb free (limits .mark) ≡ b → pick b true (pick (leb (limits .resume) free) false before) ≡ false → limits .mark ≤ free
-      go true below told = absurd (false≢true (sym told))
-      go false from told = ltb-false _ _ from
+-- a room and a mark for each of the eight priorities
+pub record EightRooms (r : Recorder) : Type 0 where
+  pub rooms : length (r .rooms) ≡ 8
+  pub wanted : length (r .marks .wanted) ≡ 8
 
-module _ (limits : Limits) where
-  -- not wanted means that the mark's octets are free: in an empty room that has them, and after every arrival and taking
-  pub free-at-start : limits .mark ≤ limits .size → NotWantedFree limits emptyRoom
-  free-at-start large not-wanted = omega arith
+pub eight-fresh : EightRooms fresh
+eight-fresh = record { rooms = refl; wanted = refl }
 
-  pub free-after-event : (room : Room) (event : RoomEvent) → NotWantedFree limits (afterEvent limits room event)
-  unfolding arrivedIn takenFrom
-  free-after-event room (arrival length) = free-unless-wanted limits _ (room .wanted)
-  free-after-event room (taking octets) = free-unless-wanted limits _ (room .wanted)
+module _ (r : Recorder) (priority : ℕ) (room : Room) (clock : ℕ) where
+  pub eight-put : EightRooms r → EightRooms (withRoom r priority room clock)
+  unfolding withRoom withMark
+  eight-put all = record { rooms = length-set (r .rooms) priority _ ∙ all .rooms; wanted = length-set (r .marks .wanted) priority _ ∙ all .wanted }
 
-  pub free-after-run : (room : Room) (events : List RoomEvent) → NotWantedFree limits room → NotWantedFree limits (afterRun limits room events)
-  free-after-run room [] free = free
-  free-after-run room (event ∷ events) free = free-after-run (afterEvent limits room event) events (free-after-event room event)
+  -- the room put
+  pub room-put-at : EightRooms r → priority < 8 → roomAt (withRoom r priority room clock) priority ≡ room
+  unfolding withRoom withMark
+  room-put-at all below =
+      let numbers = getD-set-same (r .rooms) priority (numbersOf room) [] (omega (arith, all .rooms, below)) in
+      let marked = getD-set-same (r .marks .wanted) priority (room .wanted) false (omega (arith, all .wanted, below)) in
+      λ i. roomIn (numbers i) (marked i)
 
-  -- no more is held than the room has: nothing in an empty room, and an arrival or taking keeps it so
-  pub held-at-start : HeldWithin limits emptyRoom
-  held-at-start = omega arith
+  -- every other room
+  pub room-kept-at : (other : ℕ) → (other ≡ priority → ⊥) → roomAt (withRoom r priority room clock) other ≡ roomAt r other
+  unfolding withRoom withMark
+  room-kept-at other apart =
+      let numbers = getD-set-other (r .rooms) priority other (numbersOf room) [] apart in
+      let marked = getD-set-other (r .marks .wanted) priority other (room .wanted) false apart in
+      λ i. roomIn (numbers i) (marked i)
 
-  held-when-arrived : (held length : ℕ) → held ≤ limits .size → heldAfter (limits .size) held length ≤ limits .size
-  unfolding heldAfter pick
-  held-when-arrived held length = go (fits (limits .size) held length) refl
-    where
-      go : (b : Bool) → fits (limits .size) held length ≡ b → held ≤ limits .size → pick b (held + length) held ≤ limits .size
-      go true room within = omega (arith, leb-true)
-      go false full within = within
+module _ (marks : Marks) (all : length (marks .wanted) ≡ 8) where
+  listed : someWanted marks ≡ some (eight (wantedAt marks))
+  listed = ap some (eight-of-list (marks .wanted) false all)
 
-  pub held-after-event : (room : Room) (event : RoomEvent) → HeldWithin limits room → HeldWithin limits (afterEvent limits room event)
-  unfolding arrivedIn takenFrom
-  held-after-event room (arrival length) within = held-when-arrived (room .held) length within
-  held-after-event room (taking octets) within = omega arith
+  -- one of the eight that is wanted makes some wanted; where none is, none is
+  pub some-wanted : (n : ℕ) → n < 8 → wantedAt marks n ≡ true → someWanted marks ≡ true
+  some-wanted n below wanted = listed ∙ some-here (wantedAt marks) n below wanted
 
-  pub held-after-run : (room : Room) (events : List RoomEvent) → HeldWithin limits room → HeldWithin limits (afterRun limits room events)
-  held-after-run room [] within = within
-  held-after-run room (event ∷ events) within = held-after-run (afterEvent limits room event) events (held-after-event room event within)
+  pub none-wanted : ((n : ℕ) → n < 8 → wantedAt marks n ≡ false) → someWanted marks ≡ false
+  none-wanted none = listed ∙ some-none (wantedAt marks) none
 
--- not wanted, in document 01's numbers: headroom + M octets are free
-pub not-wanted-leaves : (headroom largest hysteresis : ℕ) (limits : Limits) (room : Room) → Marked headroom largest hysteresis limits → NotWantedFree limits room → room .wanted ≡ false → headroom + largest ≤ freeOf (limits .size) (room .held)
-not-wanted-leaves headroom largest hysteresis limits room marked free not-wanted = omega (arith, free not-wanted)
+  -- some wanted is one that can be named
+  pub wanted-found : someWanted marks ≡ true → (n : ℕ) × (n < 8) × (wantedAt marks n ≡ true)
+  wanted-found holds = some-found (wantedAt marks) (sym listed ∙ holds)
 
--- a frame of at most M that arrives while pause is not wanted: "The extra M is for the frame that crosses the mark."
-pub record Crossing (headroom : ℕ) (limits : Limits) (room : Room) (length : ℕ) : Type 0 where
-  pub fit : fits (limits .size) (room .held) length ≡ true
-  pub held : arrivedIn limits room length .held ≡ room .held + length
-  pub dropped : arrivedIn limits room length .dropped ≡ room .dropped
-  pub left : headroom ≤ freeOf (limits .size) (arrivedIn limits room length .held)
-
-pub crossing : (headroom largest hysteresis length : ℕ) (limits : Limits) (room : Room) → Marked headroom largest hysteresis limits → NotWantedFree limits room → room .wanted ≡ false → length ≤ largest → Crossing headroom limits room length
-unfolding arrivedIn heldAfter droppedAfter
-crossing headroom largest hysteresis length limits room marked free not-wanted small =
-    let from : limits .mark ≤ limits .size - room .held = free not-wanted in
-    let fit : fits (limits .size) (room .held) length ≡ true = le-leb length (limits .size - room .held) (omega (arith, marked .mark)) in
-    let held : arrivedIn limits room length .held ≡ room .held + length = pick-yes _ _ fit in
-    record { fit = fit; held = held; dropped = pick-yes _ _ fit; left = omega (arith, marked .mark, held) }
-
--- what one arrival adds to what is held and dropped is its length
-arrival-adds : (size held dropped length : ℕ) → dropped + length < 2 ^ 64 → (heldAfter size held length + droppedAfter size held dropped length ≡ held + dropped + length) × (droppedAfter size held dropped length ≤ dropped + length)
-unfolding heldAfter droppedAfter pick
-arrival-adds size held dropped length small = go (fits size held length)
+-- a mark put as it was changes nothing
+same-marks : (marks : List Bool) (n : ℕ) (wanted : Bool) → n < length marks → getD marks n false ≡ wanted → set marks n wanted ≡ marks
+same-marks marks n wanted here same =
+    ext-getD false (set marks n wanted) marks (length-set marks n wanted) (λ k below. at k (eqb k n) refl)
   where
-    go : (b : Bool) → (pick b (held + length) held + pick b dropped (within64 (dropped + length)) ≡ held + dropped + length) × (pick b dropped (within64 (dropped + length)) ≤ dropped + length)
-    go true = (omega arith, omega arith)
-    go false = (omega arith, omega arith)
+    at : (k : ℕ) (b : Bool) → eqb k n ≡ b → getD (set marks n wanted) k false ≡ getD marks k false
+    at k true e =
+        subst (λ (j : ℕ). getD (set marks n wanted) j false ≡ getD marks j false) (sym (eqb-true k n e))
+        (getD-set-same marks n wanted false here ∙ sym same)
+    at k false e = getD-set-other marks n k wanted false (eqb-false k n e)
 
--- held, dropped and taken add up to what arrived, from any room on
-pub adds-up-from : (limits : Limits) (room : Room) (events : List RoomEvent) → TakesHeld limits room events → room .dropped + arrivedSum events < 2 ^ 64 → afterRun limits room events .held + afterRun limits room events .dropped + takenSum events ≡ room .held + room .dropped + arrivedSum events
-unfolding arrivedIn takenFrom
-adds-up-from limits room [] ends small = omega arith
-adds-up-from limits room (arrival length ∷ events) (arrives rest) small =
-    let one = arrival-adds (limits .size) (room .held) (room .dropped) length (omega arith) in
-    omega (arith, one .0, adds-up-from limits (arrivedIn limits room length) events rest (omega (arith, one .1)))
-adds-up-from limits room (taking octets ∷ events) (takes within rest) small =
-    omega (arith, adds-up-from limits (takenFrom limits room octets) events rest small)
+-- a room that keeps its mark changes nothing of what is wanted
+pub same-wanted : (r : Recorder) (priority : ℕ) (room : Room) (clock : ℕ) → EightRooms r → priority < 8 →
+    differ (roomAt r priority .wanted) (room .wanted) ≡ false → someWanted (withRoom r priority room clock .marks) ≡ someWanted (r .marks)
+unfolding withRoom withMark
+same-wanted r priority room clock all below none =
+    ap some (same-marks (r .marks .wanted) priority (room .wanted) (omega (arith, all .wanted, below)) (differ-none _ _ none))
 
--- and so from the empty room
-pub adds-up : (limits : Limits) (events : List RoomEvent) → TakesHeld limits emptyRoom events → arrivedSum events < 2 ^ 64 → afterRun limits emptyRoom events .held + afterRun limits emptyRoom events .dropped + takenSum events ≡ arrivedSum events
-adds-up limits events held-takings small = omega (arith, adds-up-from limits emptyRoom events held-takings (omega arith))
+-- an arrival and a taking keep the eight
+either : (test : Bool) {one other : Recorder} → EightRooms one → EightRooms other → EightRooms (pick test one other)
+unfolding pick
+either true one other = one
+either false one other = other
 
-module _ (limits : Limits) (room : Room) where
-  -- while pause is wanted the span grows by what arrives
-  pub span-grows : (length : ℕ) → room .wanted ≡ true → room .span + length < 2 ^ 64 → arrivedIn limits room length .span ≡ room .span + length
-  unfolding arrivedIn spanAfter
-  span-grows length wanted small = pick-yes _ _ wanted ∙ omega arith
+pub eight-arrived : (enabled : ℕ) (limits : Limits) (r : Recorder) (priority length clock : ℕ) → EightRooms r →
+    EightRooms (arrivedWith enabled limits r priority length clock)
+unfolding arrivedWith
+eight-arrived enabled limits r priority length clock all = either _ (eight-put r priority _ clock all) all
 
-  -- "the crossing frame not counted"
-  pub crossing-not-counted : (length : ℕ) → room .wanted ≡ false → arrivedIn limits room length .span ≡ 0
-  unfolding arrivedIn spanAfter
-  crossing-not-counted length not-wanted = pick-no _ _ not-wanted
+pub eight-left : (enabled : ℕ) (limits : Limits) (r : Recorder) (priority octets clock : ℕ) → EightRooms r →
+    EightRooms (leavesWith enabled limits r priority octets clock)
+unfolding leavesWith takenWith
+eight-left enabled limits r priority octets clock all = either _ (eight-put r priority _ clock all) all
 
-  -- the worst is the larger of the worst before and the span; a taking leaves it
-  pub worst-is-larger : (length : ℕ) → arrivedIn limits room length .worst ≡ max (room .worst) (arrivedIn limits room length .span)
-  unfolding arrivedIn
-  worst-is-larger length = refl
+-- the marks of a watch whose sums are its settings' own: nothing is cut off
+pub marks-whole : (w : Watch) (priority : ℕ) → w .kept ≡ keptFor (w .settings) → settingsRefusal (w .settings) ≡ 0 →
+    Marked (headroomOf (w .settings)) (w .settings .largest) (w .settings .hysteresis) (limitsOf w priority)
+unfolding limitsOf
+marks-whole w priority own accepted =
+    let ok = accepted-facts (w .settings) accepted in
+    let headroom : w .kept .headroom .0 ≡ headroomOf (w .settings) = ap (λ (k : Kept). k .headroom .0) own in
+    record {
+      mark = omega (arith, headroom, ok .largest-most, ok .generation-most, ok .request-most, ok .data-most);
+      resume = omega (arith, headroom, ok .largest-most, ok .generation-most, ok .request-most, ok .data-most, ok .hysteresis-most);
+    }
 
-  pub worst-stays : (octets : ℕ) → takenFrom limits room octets .worst ≡ room .worst
-  unfolding takenFrom
-  worst-stays octets = refl
+-- and an enabled priority's room holds them
+pub resume-fits : (w : Watch) (priority : ℕ) → w .kept ≡ keptFor (w .settings) → settingsRefusal (w .settings) ≡ 0 → priority < 8 →
+    isSet (w .settings .enabled) priority ≡ true → limitsOf w priority .resume ≤ limitsOf w priority .size
+unfolding limitsOf
+resume-fits w priority own accepted below enabled =
+    omega (arith, marks-whole w priority own accepted .resume, accepted-facts (w .settings) accepted .room-least priority below enabled)
 
-  -- a taking leaves the span while pause stays wanted, and ends it where it is no longer wanted
-  pub span-stays : (octets : ℕ) → takenFrom limits room octets .wanted ≡ true → takenFrom limits room octets .span ≡ room .span
-  unfolding takenFrom spanKept
-  span-stays octets wanted = pick-yes _ _ wanted
+-- "buffers empty"
+pub fresh-room : (p : ℕ) → p < 8 → roomAt fresh p ≡ emptyRoom
+fresh-room p below = λ i. roomIn (getD-eight (λ n. numbersOf emptyRoom) [] p below i) (getD-eight (λ n. false) false p below i)
 
-  pub span-ends : (octets : ℕ) → takenFrom limits room octets .wanted ≡ false → takenFrom limits room octets .span ≡ 0
-  unfolding takenFrom spanKept
-  span-ends octets not-wanted = pick-no _ _ not-wanted
+-- what holds of the room put, if p is its priority, and of the room before, if it is not, holds of the room of p
+pub room-then : (r : Recorder) (priority : ℕ) (room : Room) (clock : ℕ) → EightRooms r → (P : Room → Type 0) (p : ℕ) → p < 8 →
+    (p ≡ priority → P room) → ((p ≡ priority → ⊥) → P (roomAt r p)) → P (roomAt (withRoom r priority room clock) p)
+room-then r priority room clock all P p below own other = go (eqb p priority) refl
+  where
+    go : (b : Bool) → eqb p priority ≡ b → P (roomAt (withRoom r priority room clock) p)
+    go true e =
+        let same : p ≡ priority = eqb-true p priority e in
+        subst (λ (k : ℕ). P (roomAt (withRoom r priority room clock) k)) (sym same)
+        (subst P (sym (room-put-at r priority room clock all (omega arith))) (own same))
+    go false e = let apart = eqb-false p priority e in subst P (sym (room-kept-at r priority room clock p apart)) (other apart)

@@ -3,40 +3,47 @@ use Prim.Native.Nat.{ℕ, _+_, _%_, _^_}
 use mathlib.Core.Bool.{Bool, true, false}
 use mathlib.Core.List.{List, [], _∷_}
 use lib.ListN.{getD, set}
-use lib.Dec.{ltb, leb, eqb}
+use lib.Dec.{ltb, eqb}
 use Rattle.ground.specs.Pick.{pick}
 use Rattle.ground.specs.Eight.{eight, isSet, some}
-use Rattle.units.specs.Units.{within64}
-use Rattle.recorder.specs.Room.{arrivedIn, takenFrom}
-use Rattle.recorder.specs.Settings.{isEnabled, roomOf}
-use Rattle.recorder.specs.declared.room.Room.{Room}
-use Rattle.recorder.specs.declared.room.Limits.{Limits}
-use Rattle.recorder.specs.declared.watch.Moment.{Moment}
-use Rattle.recorder.specs.declared.watch.Moment.the-variants.{Never, At}
-use Rattle.recorder.specs.declared.watch.Recorder.{Recorder}
-use Rattle.recorder.specs.declared.watch.Taking.{Taking}
-use Rattle.recorder.specs.declared.watch.Watch.{Watch}
+use Rattle.moments.specs.Moments.{at, dueOn, refreshFrom}
+use Rattle.moments.specs.declared.Moment.{Moment}
+use Rattle.moments.specs.declared.Moment.the-variants.{Never}
+use Rattle.rooms.specs.Room.{limitsFor, arrivedIn, takenFrom, emptyRoom, roomIn, numbersOf}
+use Rattle.rooms.specs.declared.Room.{Room}
+use Rattle.rooms.specs.declared.Limits.{Limits}
+use Rattle.settings.specs.Settings.{isEnabled, roomOf}
+use Rattle.recorder.specs.declared.Marks.{Marks}
+use Rattle.recorder.specs.declared.Taking.{Taking}
+use Rattle.recorder.specs.declared.Watch.{Watch}
 
--- an empty room, nothing wanted
-abbrev pub emptyRoom : Room
-emptyRoom = record { held = 0; dropped = 0; wanted = false; span = 0; worst = 0 }
+-- station B: the numbers of each priority's room, and its marks
+pub record Recorder : Type 0 where
+  pub rooms : List (List ℕ)
+  pub marks : Marks
 
--- "buffers empty"; no PFC frame due or started
+-- as the code holds it: the rooms lent, the marks by value
+abbrev pub recorderOf : List (List ℕ) → Marks → Recorder
+recorderOf rooms marks = record { rooms = rooms; marks = marks }
+
+-- "buffers empty"; nothing wanted, no PFC frame due or started
+abbrev pub freshMarks : Marks
+freshMarks = record { wanted = eight (λ n. false); due = Never; last = Never; sent = 0 }
+
 abbrev pub fresh : Recorder
-fresh = record { rooms = eight (λ n. emptyRoom); due = Never; last = Never; sent = 0 }
+fresh = recorderOf (eight (λ n. numbersOf emptyRoom)) freshMarks
+
+-- whether pause is wanted for a priority
+abbrev pub wantedAt : Marks → ℕ → Bool
+wantedAt marks priority = getD (marks .wanted) priority false
 
 -- the room of a priority, with what it holds
 abbrev pub roomAt : Recorder → ℕ → Room
-roomAt r priority = getD (r .rooms) priority emptyRoom
+roomAt r priority = roomIn (getD (r .rooms) priority []) (wantedAt (r .marks) priority)
 
--- free room below "headroom + M": wanted; from "headroom + M + hysteresis" on: no longer
+-- the limits of a priority's room by the settings and the headroom that they carry
 unfoldable pub limitsOf : Watch → ℕ → Limits
-limitsOf w priority =
-    record {
-      size = roomOf (w .settings .rooms) priority;
-      mark = within64 (w .kept .headroom .0 + w .settings .largest);
-      resume = within64 (within64 (w .kept .headroom .0 + w .settings .largest) + w .settings .hysteresis);
-    }
+limitsOf w priority = limitsFor (roomOf (w .settings .rooms) priority) (w .kept .headroom .0) (w .settings .largest) (w .settings .hysteresis)
 
 -- the two marks differ
 unfoldable pub differ : Bool → Bool → Bool
@@ -45,82 +52,74 @@ differ true false = true
 differ false true = true
 differ false false = false
 
--- "PFC becomes due when any wanted mark changes"; "until then its first moment stands"
-unfoldable pub dueOn : Bool → ℕ → Moment → Moment
-dueOn true now Never = At now
-dueOn false now Never = Never
-dueOn true now (At first) = At first
-dueOn false now (At first) = At first
+-- the marks once that of a priority is as given: "PFC becomes due when any wanted mark changes"
+unfoldable pub withMark : Marks → ℕ → Bool → ℕ → Marks
+withMark marks priority wanted clock =
+    record {
+      wanted = set (marks .wanted) priority wanted;
+      due = dueOn (differ (wantedAt marks priority) wanted) clock (marks .due);
+      last = marks .last;
+      sent = marks .sent;
+    }
 
 -- the recorder once the room of a priority is as given
 unfoldable pub withRoom : Recorder → ℕ → Room → ℕ → Recorder
-withRoom r priority room now =
-    record {
-      rooms = set (r .rooms) priority room;
-      due = dueOn (differ (roomAt r priority .wanted) (room .wanted)) now (r .due);
-      last = r .last;
-      sent = r .sent;
-    }
+withRoom r priority room clock =
+    recorderOf (set (r .rooms) priority (numbersOf room)) (withMark (r .marks) priority (room .wanted) clock)
 
--- a frame arrives; "Frames of priorities not enabled arrive without being held or counted."
+-- a frame arrives where the enabled octet and the limits of its priority's room are these; "Frames of priorities not enabled arrive
+-- without being held or counted."
+unfoldable pub arrivedWith : ℕ → Limits → Recorder → ℕ → ℕ → ℕ → Recorder
+arrivedWith enabled limits r priority length clock =
+    pick (isEnabled enabled priority) (withRoom r priority (arrivedIn limits (roomAt r priority) length) clock) r
+
 unfoldable pub arrivedAt : Watch → Recorder → ℕ → ℕ → ℕ → Recorder
-arrivedAt w r priority length now =
-    pick (isEnabled (w .settings .enabled) priority)
-    (withRoom r priority (arrivedIn (limitsOf w priority) (roomAt r priority) length) now)
-    r
+arrivedAt w r priority length clock = arrivedWith (w .settings .enabled) (limitsOf w priority) r priority length clock
 
 -- 32 "priority above 7", 43 "priority not enabled", 42 "more than is held", in this order; 0: none of them
+unfoldable pub refusalWith : ℕ → Recorder → ℕ → ℕ → ℕ
+refusalWith enabled r priority octets =
+    pick (ltb 7 priority) 32 (pick (isEnabled enabled priority) (pick (ltb (roomAt r priority .held) octets) 42 0) 43)
+
 unfoldable pub takingRefusal : Watch → Recorder → ℕ → ℕ → ℕ
-takingRefusal w r priority octets =
-    pick (ltb 7 priority) 32 (pick (isEnabled (w .settings .enabled) priority) (pick (ltb (roomAt r priority .held) octets) 42 0) 43)
+takingRefusal w r priority octets = refusalWith (w .settings .enabled) r priority octets
 
 -- the disk takes octets
-unfoldable pub takenAt : Watch → Recorder → ℕ → ℕ → ℕ → Recorder
-takenAt w r priority octets now = withRoom r priority (takenFrom (limitsOf w priority) (roomAt r priority) octets) now
+unfoldable pub takenWith : Limits → Recorder → ℕ → ℕ → ℕ → Recorder
+takenWith limits r priority octets clock = withRoom r priority (takenFrom limits (roomAt r priority) octets) clock
 
--- a taking's number, and the recorder after it; a refusal leaves it as it was
-unfoldable pub taking : Watch → Recorder → ℕ → ℕ → ℕ → Taking
-taking w r priority octets now =
-    record {
-      refusal = takingRefusal w r priority octets;
-      recorder = pick (eqb (takingRefusal w r priority octets) 0) (takenAt w r priority octets now) r;
-    }
+unfoldable pub takenAt : Watch → Recorder → ℕ → ℕ → ℕ → Recorder
+takenAt w r priority octets clock = takenWith (limitsOf w priority) r priority octets clock
+
+-- the recorder after a taking; a refusal leaves it as it was
+unfoldable pub leavesWith : ℕ → Limits → Recorder → ℕ → ℕ → ℕ → Recorder
+leavesWith enabled limits r priority octets clock =
+    pick (eqb (refusalWith enabled r priority octets) 0) (takenWith limits r priority octets clock) r
+
+unfoldable pub takingLeaves : Watch → Recorder → ℕ → ℕ → ℕ → Recorder
+takingLeaves w r priority octets clock = leavesWith (w .settings .enabled) (limitsOf w priority) r priority octets clock
 
 -- "some priority is wanted"
-unfoldable pub someWanted : List Room → Bool
-someWanted rooms = some (eight (λ n. getD rooms n emptyRoom .wanted))
-
--- "at least I octet times (the refresh) have passed since the last PFC frame started": the moment from which that holds, none where no PFC frame has started
-unfoldable pub refreshFrom : Moment → ℕ → Moment
-refreshFrom Never refresh = Never
-refreshFrom (At started) refresh = At (within64 (started + refresh))
+abbrev pub someWanted : Marks → Bool
+someWanted marks = some (marks .wanted)
 
 -- the moment of the refresh, while some priority is wanted (no mark changes inside a wait, so that what is wanted where it begins is
 -- wanted at that moment)
-unfoldable pub refreshOf : Watch → Recorder → Moment
-refreshOf w r = pick (someWanted (r .rooms)) (refreshFrom (r .last) (w .settings .refresh .0)) Never
-
--- due by the refresh, "dated from that moment even inside a step"
-unfoldable pub dueBy : Moment → ℕ → Moment → Moment
-dueBy refresh now (At first) = At first
-dueBy Never now Never = Never
-dueBy (At moment) now Never = pick (leb moment now) (At moment) Never
+unfoldable pub refreshOf : ℕ → Marks → Moment
+refreshOf refresh marks = pick (someWanted marks) (refreshFrom (marks .last) refresh) Never
 
 -- "Starting one ends the due state"; "The counts of requests sent .. go from 4,294,967,295 back to 0."
-unfoldable pub startedAt : Recorder → ℕ → Recorder
-startedAt r now = record { rooms = r .rooms; due = Never; last = At now; sent = (r .sent + 1) % 2 ^ 32 }
+unfoldable pub startedAt : Marks → ℕ → Marks
+startedAt marks clock = record { wanted = marks .wanted; due = Never; last = at clock; sent = (marks .sent + 1) % 2 ^ 32 }
 
--- a recorder with another due moment
-unfoldable pub withDue : Recorder → Moment → Recorder
-withDue r due = record { rooms = r .rooms; due = due; last = r .last; sent = r .sent }
+-- the marks with another due moment
+unfoldable pub withDue : Marks → Moment → Marks
+withDue marks due = record { wanted = marks .wanted; due = due; last = marks .last; sent = marks .sent }
 
 -- "pause time T where wanted and 0 elsewhere"; a priority not enabled has time 0
-abbrev pub timeIn : Watch → List Room → ℕ → ℕ
-timeIn w rooms n = pick (isSet (w .settings .enabled) n) (pick (getD rooms n emptyRoom .wanted) (w .settings .pause) 0) 0
-
-unfoldable pub timeFor : Watch → Recorder → ℕ → ℕ
-timeFor w r n = timeIn w (r .rooms) n
+unfoldable pub timeFor : ℕ → ℕ → Marks → ℕ → ℕ
+timeFor enabled pause marks n = pick (isSet enabled n) (pick (wantedAt marks n) pause 0) 0
 
 -- the frame's eight times; its enable octet is the enabled octet: "The frame carries e[n] for every enabled priority"
-unfoldable pub timesFor : Watch → Recorder → List ℕ
-timesFor w r = eight (timeFor w r)
+unfoldable pub timesFor : ℕ → ℕ → Marks → List ℕ
+timesFor enabled pause marks = eight (timeFor enabled pause marks)

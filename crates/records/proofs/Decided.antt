@@ -2,25 +2,10 @@
 -- every public function, and assumes nothing.
 use mathlib.Core.Path.{sym, _∙_}
 use Rattle.ground.proofs.Decides.{Decides}
-use Rattle.records.proofs.octet_at.Kinds as octet-at-kinds
-use Rattle.records.proofs.octet_at.Reads as octet-at
-use Rattle.records.proofs.word_at.Kinds as word-at-kinds
-use Rattle.records.proofs.word_at.Reads as word-at
-use Rattle.records.proofs.long_at.Kinds as long-at-kinds
-use Rattle.records.proofs.long_at.Reads as long-at
 use Rattle.records.proofs.body_length.Kinds as body-length-kinds
 use Rattle.records.proofs.body_length.Reads as body-length
 use Rattle.records.proofs.decode.Kinds as decode-kinds
 use Rattle.records.proofs.decode.Reads as decode
-
-pub octet-at-decides : Decides 1 octet-at-kinds.ps octet-at-kinds.r octet-at.Post
-octet-at-decides κs args x y e f p q = p ∙ sym q
-
-pub word-at-decides : Decides 1 word-at-kinds.ps word-at-kinds.r word-at.Post
-word-at-decides κs args x y e f p q = p ∙ sym q
-
-pub long-at-decides : Decides 1 long-at-kinds.ps long-at-kinds.r long-at.Post
-long-at-decides κs args x y e f p q = p ∙ sym q
 
 pub body-length-decides : Decides 0 body-length-kinds.ps body-length-kinds.r body-length.Post
 body-length-decides κs args x y e f p q = p .0 ∙ sym (q .0)

@@ -8,13 +8,14 @@ use lib.Dec.{eqb}
 use lib.ListN.{length}
 use borrow.Author.Tests.{eqb-false}
 use Rattle.ground.specs.Pick.{pick}
-use Rattle.frame.specs.Layout.{octetAt}
+use Rattle.octets.specs.Numbers.{octetAt}
 use Rattle.records.specs.Records.{bodyOf, octetsRefusal, decoded}
 use Rattle.records.specs.declared.Record.{Record}
 use Rattle.records.specs.declared.Record.the-variants.{Refused}
 
 -- neither of two is a refusal: what is picked is none
-neither : (b : Bool) (this that : Record) → ((number : ℕ) → this ≡ Refused number → ⊥) → ((number : ℕ) → that ≡ Refused number → ⊥) → (number : ℕ) → pick b this that ≡ Refused number → ⊥
+neither : (b : Bool) (this that : Record) → ((number : ℕ) → this ≡ Refused number → ⊥) → ((number : ℕ) → that ≡ Refused number → ⊥) →
+    (number : ℕ) → pick b this that ≡ Refused number → ⊥
 unfolding pick
 neither true this that a b number e = a number e
 neither false this that a b number e = b number e

@@ -1,10 +1,10 @@
 -- Document 01, "The bench": a record is "one octet of kind, then a fixed body, numbers most significant octet first".
-use Prim.Native.Nat.{ℕ, _+_, _*_}
+use Prim.Native.Nat.{ℕ, _+_}
 use mathlib.Core.List.{List}
 use lib.ListN.{length}
 use lib.Dec.{ltb, eqb}
 use Rattle.ground.specs.Pick.{pick}
-use Rattle.frame.specs.Layout.{octetAt, wordAt}
+use Rattle.octets.specs.Numbers.{octetAt, wordAt}
 use Rattle.records.specs.declared.Record.{Record}
 use Rattle.records.specs.declared.Record.the-variants.{Wait, StartData, Arrive, StartOther, StartPfc, TakeEffect, TakeOctets, Refused}
 
@@ -42,7 +42,3 @@ decoded octets =
     pick (eqb (octetsRefusal (octetAt octets 0) (length octets)) 0)
     (bodyOf (octetAt octets 0) octets)
     (Refused (octetsRefusal (octetAt octets 0) (length octets)))
-
--- the number of four octets from a place on
-abbrev pub longAt : List ℕ → ℕ → ℕ
-longAt octets place = 65536 * wordAt octets place + wordAt octets (place + 2)

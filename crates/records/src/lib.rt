@@ -2,8 +2,7 @@
 ghost use mathlib.Core.Path.{_≡_};
 ghost use Prim.Native.Nat.{_<_, _≤_, _+_};
 ghost use lib.ListN.{length};
-ghost use Rattle.frame.specs.Layout.{octetAt, wordAt};
-ghost use Rattle.records.specs.Records.{bodyLength, bodyOf, sizedRefusal, decoded, longAt};
+ghost use Rattle.records.specs.Records.{bodyLength, bodyOf, sizedRefusal, decoded};
 
 // What a record asks, with its numbers, or the refusal of its octets.
 pub enum Record {
@@ -22,50 +21,6 @@ pub enum Record {
     // B's disk takes octets: priority, octets
     TakeOctets(u8, u16),
     Refused(u8),
-}
-
-// The octet at a place; 0 past the end.
-pub fn octet_at(octets: &[u8], place: usize) -> u8
-    ensures { λ r. ⌜ r ≡ octetAt (now (octets .entry)) place ⌝ }
-{
-    if octets.len() <= place {
-        return 0;
-    }
-    octets[place]
-}
-
-fn wide(octet: u8) -> u16
-    ensures { λ r. ⌜ (r ≡ octet) × (r < 256) ⌝ }
-{
-    octet as u16
-}
-
-// The number of two octets from a place on, most significant first.
-pub fn word_at(octets: &[u8], place: usize) -> u16
-    ensures { λ r. ⌜ r ≡ wordAt (now (octets .entry)) place ⌝ }
-{
-    if place < octets.len() {
-        256 * wide(octet_at(octets, place)) + wide(octet_at(octets, place + 1))
-    } else {
-        0
-    }
-}
-
-fn long(word: u16) -> u64
-    ensures { λ r. ⌜ (r ≡ word) × (r < 65536) ⌝ }
-{
-    word as u64
-}
-
-// The number of four octets from a place on, most significant first.
-pub fn long_at(octets: &[u8], place: usize) -> u64
-    ensures { λ r. ⌜ r ≡ longAt (now (octets .entry)) place ⌝ }
-{
-    if place < octets.len() {
-        65536 * long(word_at(octets, place)) + long(word_at(octets, place + 2))
-    } else {
-        0
-    }
 }
 
 // The octets of a kind's body.
@@ -94,16 +49,16 @@ fn body(kind: u8, octets: &[u8]) -> Record
     ensures { λ r. ⌜ r ≡ bodyOf kind (now (octets .entry)) ⌝ }
 {
     if kind == 1 {
-        return Record::Wait(word_at(octets, 1));
+        return Record::Wait(octets::word_at(octets, 1));
     }
     if kind == 2 {
-        return Record::StartData(octet_at(octets, 1), word_at(octets, 2));
+        return Record::StartData(octets::octet_at(octets, 1), octets::word_at(octets, 2));
     }
     if kind == 3 {
         return Record::Arrive;
     }
     if kind == 4 {
-        return Record::StartOther(word_at(octets, 1));
+        return Record::StartOther(octets::word_at(octets, 1));
     }
     if kind == 5 {
         return Record::StartPfc;
@@ -111,7 +66,7 @@ fn body(kind: u8, octets: &[u8]) -> Record
     if kind == 6 {
         return Record::TakeEffect;
     }
-    Record::TakeOctets(octet_at(octets, 1), word_at(octets, 2))
+    Record::TakeOctets(octets::octet_at(octets, 1), octets::word_at(octets, 2))
 }
 
 // 44, 30 and 31 of a record of this kind with this many octets, of which its kind has a whole count, in their order; 0 where none of
@@ -138,7 +93,7 @@ fn refusal(kind: u8, size: usize, whole: usize) -> u8
 pub fn decode(octets: &[u8]) -> Record
     ensures { λ r. ⌜ r ≡ decoded (now (octets .entry)) ⌝ }
 {
-    let kind = octet_at(octets, 0);
+    let kind = octets::octet_at(octets, 0);
     let number = refusal(kind, octets.len(), 1 + body_length(kind));
     if number != 0 {
         return Record::Refused(number);

@@ -12,23 +12,29 @@ use Rattle.units.proofs.octets_of_bits.Kinds as octets-of-bits-kinds
 use Rattle.units.proofs.octets_of_bits.Reads as octets-of-bits
 use Rattle.units.proofs.quanta_of_bits.Kinds as quanta-of-bits-kinds
 use Rattle.units.proofs.quanta_of_bits.Reads as quanta-of-bits
-use Rattle.units.proofs.sum.Kinds as sum-kinds
-use Rattle.units.proofs.sum.Reads as sum
+use Rattle.units.proofs.later.Kinds as later-kinds
+use Rattle.units.proofs.later.Reads as later
+use Rattle.units.proofs.wire_time.Kinds as wire-time-kinds
+use Rattle.units.proofs.wire_time.Reads as wire-time
+use Rattle.units.proofs.sum_of_bits.Kinds as sum-of-bits-kinds
+use Rattle.units.proofs.sum_of_bits.Reads as sum-of-bits
 
-pub bits-of-octets-decides : Decides 0 bits-of-octets-kinds.ps bits-of-octets-kinds.r bits-of-octets.Post
-bits-of-octets-decides κs args x y e f p q = λ i. record { 0 = (p ∙ sym q) i }
-
-pub bits-of-quanta-decides : Decides 0 bits-of-quanta-kinds.ps bits-of-quanta-kinds.r bits-of-quanta.Post
-bits-of-quanta-decides κs args x y e f p q = λ i. record { 0 = (p ∙ sym q) i }
-
-pub octets-of-quanta-decides : Decides 0 octets-of-quanta-kinds.ps octets-of-quanta-kinds.r octets-of-quanta.Post
-octets-of-quanta-decides κs args x y e f p q = λ i. record { 0 = (p ∙ sym q) i }
-
-pub octets-of-bits-decides : Decides 0 octets-of-bits-kinds.ps octets-of-bits-kinds.r octets-of-bits.Post
-octets-of-bits-decides κs args x y e f p q = λ i. record { 0 = (p ∙ sym q) i }
-
-pub quanta-of-bits-decides : Decides 0 quanta-of-bits-kinds.ps quanta-of-bits-kinds.r quanta-of-bits.Post
-quanta-of-bits-decides κs args x y e f p q = λ i. record { 0 = (p ∙ sym q) i }
-
-pub sum-decides : Decides 0 sum-kinds.ps sum-kinds.r sum.Post
-sum-decides κs args x y e f p q = p ∙ sym q
+pub decided :
+    (Decides 0 bits-of-octets-kinds.ps bits-of-octets-kinds.r bits-of-octets.Post) ×
+    (Decides 0 bits-of-quanta-kinds.ps bits-of-quanta-kinds.r bits-of-quanta.Post) ×
+    (Decides 0 octets-of-quanta-kinds.ps octets-of-quanta-kinds.r octets-of-quanta.Post) ×
+    (Decides 0 octets-of-bits-kinds.ps octets-of-bits-kinds.r octets-of-bits.Post) ×
+    (Decides 0 quanta-of-bits-kinds.ps quanta-of-bits-kinds.r quanta-of-bits.Post) ×
+    (Decides 0 later-kinds.ps later-kinds.r later.Post) ×
+    (Decides 0 wire-time-kinds.ps wire-time-kinds.r wire-time.Post) ×
+    (Decides 0 sum-of-bits-kinds.ps sum-of-bits-kinds.r sum-of-bits.Post)
+decided = (
+  λ κs args x y e f p q. λ i. record { 0 = (p ∙ sym q) i },
+  λ κs args x y e f p q. λ i. record { 0 = (p ∙ sym q) i },
+  λ κs args x y e f p q. λ i. record { 0 = (p ∙ sym q) i },
+  λ κs args x y e f p q. λ i. record { 0 = (p ∙ sym q) i },
+  λ κs args x y e f p q. λ i. record { 0 = (p ∙ sym q) i },
+  λ κs args x y e f p q. λ i. record { 0 = (p ∙ sym q) i },
+  λ κs args x y e f p q. λ i. record { 0 = (p ∙ sym q) i },
+  λ κs args x y e f p q. λ i. record { 0 = (p ∙ sym q) i },
+)

@@ -1,2 +1,3 @@
 -- What the units' contracts cite.
+pub mod Counts
 pub mod Units

@@ -1,9 +1,10 @@
-// What a case asks: its body is taken apart, the library is called, and the answer is printed. A body that is too short is `short`.
-use crate::octets;
+// What a case asks: its body is taken apart, the library is called, and the answer is printed; each function answers
+// whether all of its line was written. A body that is too short is `short`.
+use crate::fields;
 use crate::print;
 use head::Head;
 use headroom_sum::Inputs;
-use recorder::settings::Settings;
+use settings::Settings;
 use units::BitTimes;
 use units::OctetTimes;
 use units::Quanta;
@@ -11,33 +12,30 @@ ghost use Prim.Native.Nat.{_+_, _≤_};
 ghost use lib.ListN.{length};
 
 // M 8, own address 6, frame: what the frame is, and the part handed back.
-pub(crate) fn reading(body: &[u8]) {
+pub(crate) fn reading(body: &[u8]) -> bool {
     if body.len() < 14 {
-        print::short();
-        return;
+        return print::short();
     }
-    let largest = octets::eight(body, 0);
-    let own = octets::address(body, 8);
-    print::verdict(frame::read(&body[14..], largest, own));
-    print::part(frame::part(&body[14..], largest, own));
+    let largest = octets::wide_at(body, 0);
+    let own = fields::address(body, 8);
+    let well = print::verdict(frame::read(&body[14..], largest, own));
+    print::part(well, frame::part(&body[14..], largest, own))
 }
 
 // Source 6, e 1, times 8 x 2, buffer: the buffer is lent as it stands in the case.
-pub(crate) fn building(body: &mut [u8]) {
+pub(crate) fn building(body: &mut [u8]) -> bool {
     if body.len() < 23 {
-        print::short();
-        return;
+        return print::short();
     }
-    let source = octets::address(body, 0);
+    let source = fields::address(body, 0);
     let e = body[6];
-    let times = octets::times(body, 7);
-    build_in(&mut body[23..], source, e, times);
+    let times = fields::times(body, 7);
+    build_in(&mut body[23..], source, e, times)
 }
 
-fn build_in(buffer: &mut [u8], source: [u8; 6], e: u8, times: [u16; 8]) {
-    let built = frame::build(buffer, source, e, times);
-    print::built(built);
-    print::part(buffer);
+fn build_in(buffer: &mut [u8], source: [u8; 6], e: u8, times: [u16; 8]) -> bool {
+    let built = frame_build::build(buffer, source, e, times);
+    print::part(print::built(built), buffer)
 }
 
 // The octets of the action at a place of a row; 0 where the row ends there.
@@ -66,9 +64,9 @@ fn acted(head: Head, row: &[u8], at: usize, size: usize) -> Head
     requires { ⌜ (9 ≤ size) × (at + size ≤ length (now row)) ⌝ }
 {
     if size < 18 {
-        return head.passed(Quanta(octets::eight(row, at + 1)));
+        return head.passed(Quanta(octets::wide_at(row, at + 1)));
     }
-    head.taken(row[at + 1], octets::times(row, at + 2))
+    head.taken(row[at + 1], fields::times(row, at + 2))
 }
 
 // The head after a row of actions, which starts at a place of a case.
@@ -89,90 +87,84 @@ fn after_row(head: Head, row: &[u8], start: usize) -> Head
 }
 
 // Enabled 1, indications so far 4, timers 8 x 2, then the row of actions.
-pub(crate) fn timers(body: &[u8]) {
+pub(crate) fn timers(body: &[u8]) -> bool {
     if body.len() < 21 {
-        print::short();
-        return;
+        return print::short();
     }
-    let timers = octets::times(body, 5);
+    let timers = fields::times(body, 5);
     let head = Head {
         enabled: body[0],
         timers,
-        indications: octets::four(body, 1) as u32,
+        indications: (octets::long_at(body, 1) % 4_294_967_296) as u32,
     };
-    print::head(after_row(head, body, 21));
+    print::head(after_row(head, body, 21))
 }
 
-// Heads 8, map 8, paused marks 1.
-pub(crate) fn choice(body: &[u8]) {
+// Fronts 8, map 8, paused marks 1.
+pub(crate) fn choice(body: &[u8]) -> bool {
     if body.len() < 17 {
-        print::short();
-        return;
+        return print::short();
     }
-    let paused = octets::marks(body[16]);
-    print::choice(head::choose(octets::row(body, 0), octets::row(body, 8), paused));
+    let paused = octets::bits(body[16]);
+    print::choice(choice::choose(fields::row(body, 0), fields::row(body, 8), paused))
 }
 
 // Rate, metres, percentage, M, generation, B transmit, B receive, A transmit, A receive, halt: 8 octets each.
-pub(crate) fn headroom(body: &[u8]) {
+pub(crate) fn headroom(body: &[u8]) -> bool {
     if body.len() < 80 {
-        print::short();
-        return;
+        return print::short();
     }
     let inputs = Inputs {
-        rate: octets::eight(body, 0),
-        metres: octets::eight(body, 8),
-        percentage: octets::eight(body, 16),
-        largest: octets::eight(body, 24),
-        generation: BitTimes(octets::eight(body, 32)),
-        b_transmit: BitTimes(octets::eight(body, 40)),
-        b_receive: BitTimes(octets::eight(body, 48)),
-        a_transmit: BitTimes(octets::eight(body, 56)),
-        a_receive: BitTimes(octets::eight(body, 64)),
-        halt: BitTimes(octets::eight(body, 72)),
+        rate: octets::wide_at(body, 0),
+        metres: octets::wide_at(body, 8),
+        percentage: octets::wide_at(body, 16),
+        largest: octets::wide_at(body, 24),
+        generation: BitTimes(octets::wide_at(body, 32)),
+        b_transmit: BitTimes(octets::wide_at(body, 40)),
+        b_receive: BitTimes(octets::wide_at(body, 48)),
+        a_transmit: BitTimes(octets::wide_at(body, 56)),
+        a_receive: BitTimes(octets::wide_at(body, 64)),
+        halt: BitTimes(octets::wide_at(body, 72)),
     };
-    print::summed(headroom_sum::sum(inputs));
+    print::summed(headroom_sum::sum(inputs))
 }
 
 // Enabled 1, M 8, generation 8, request path 8, data path 8, T 2, I 8, hysteresis 8, rooms 8 x 8.
-pub(crate) fn settings(body: &[u8]) {
+pub(crate) fn settings(body: &[u8]) -> bool {
     if body.len() < 115 {
-        print::short();
-        return;
+        return print::short();
     }
-    let rooms = octets::rooms(body, 51);
+    let rooms = fields::rooms(&body[51..]);
     let settings = Settings {
         enabled: body[0],
-        largest: octets::eight(body, 1),
-        generation: BitTimes(octets::eight(body, 9)),
-        request_path: BitTimes(octets::eight(body, 17)),
-        data_path: BitTimes(octets::eight(body, 25)),
-        pause: octets::two(body, 33),
-        refresh: OctetTimes(octets::eight(body, 35)),
-        hysteresis: octets::eight(body, 43),
+        largest: octets::wide_at(body, 1),
+        generation: BitTimes(octets::wide_at(body, 9)),
+        request_path: BitTimes(octets::wide_at(body, 17)),
+        data_path: BitTimes(octets::wide_at(body, 25)),
+        pause: octets::word_at(body, 33),
+        refresh: OctetTimes(octets::wide_at(body, 35)),
+        hysteresis: octets::wide_at(body, 43),
         rooms,
     };
-    print::settling(recorder::settings::settle(settings));
+    print::settling(settings::settle(settings))
 }
 
-fn send<'a>(control: &'a [u8], data: &'a [u8], due: bool) {
-    print::refusal(b"sender ", recorder::sender::send_refusal(control));
-    print::part(recorder::sender::to_send(control, data, due));
+fn send<'a>(control: &'a [u8], data: &'a [u8], due: bool) -> bool {
+    let well = print::refusal(b"sender ", sender::send_refusal(control));
+    print::part(well, sender::to_send(control, data, due))
 }
 
 // Due 1, control length 2, data length 2, control frame, data frame.
-pub(crate) fn sender(body: &[u8]) {
+pub(crate) fn sender(body: &[u8]) -> bool {
     if body.len() < 5 {
-        print::short();
-        return;
+        return print::short();
     }
-    let control = octets::two(body, 1) as usize;
-    let data = octets::two(body, 3) as usize;
+    let control = octets::word_at(body, 1) as usize;
+    let data = octets::word_at(body, 3) as usize;
     let middle = 5 + control;
     let end = middle + data;
     if body.len() < end {
-        print::short();
-        return;
+        return print::short();
     }
-    send(&body[5..middle], &body[middle..end], body[0] != 0);
+    send(&body[5..middle], &body[middle..end], body[0] != 0)
 }

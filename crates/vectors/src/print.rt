@@ -1,29 +1,30 @@
-// The lines of docs/VECTORS.md: numbers in decimal, octets as lower-case hex, `-` for no octets.
-use frame::Built;
+// The lines of docs/VECTORS.md: numbers in decimal, octets as lower-case hex, `-` for no octets. Each function answers whether
+// all was written; what goes on with a line writes only where that is so of what stands before it.
+use choice::Choice;
 use frame::Request;
 use frame::Verdict;
-use head::Choice;
+use frame_build::Built;
 use head::Head;
 use headroom_sum::Items;
-use headroom_sum::Kept;
 use headroom_sum::Summed;
-use libc::STDOUT_FILENO;
-use recorder::settings::Settling;
+use room_to_keep::Kept;
+use settings::Settling;
 ghost use Prim.Native.Nat.{_+_, _≤_};
 ghost use lib.ListN.{length};
 
-fn text(words: &[u8]) {
-    io::write_all(STDOUT_FILENO, words);
+fn text(is_well: bool, words: &[u8]) -> bool {
+    console::output::write(b"vectors", is_well, words)
 }
 
 // A word and a number after it.
-fn item(word: &[u8], n: u64) {
-    text(word);
-    io::print_decimal(STDOUT_FILENO, n);
+fn item(is_well: bool, word: &[u8], n: u64) -> bool {
+    let mut digits = [0u8; 20];
+    let k = io::decimal(n, &mut digits);
+    text(text(is_well, word), &digits[..k])
 }
 
-pub(crate) fn short() {
-    text(b"short\n");
+pub(crate) fn short() -> bool {
+    text(true, b"short\n")
 }
 
 // The lower-case digit of a number's low four bits.
@@ -33,7 +34,7 @@ fn digit(n: u8) -> u8 {
 }
 
 // The hex of so many octets from a place on, at most 256.
-fn hex_some(octets: &[u8], at: usize, count: usize)
+fn hex_some(is_well: bool, octets: &[u8], at: usize, count: usize) -> bool
     requires { ⌜ (at + count ≤ length (now octets)) × (count ≤ 256) ⌝ }
 {
     let mut digits = [0u8; 512];
@@ -44,69 +45,70 @@ fn hex_some(octets: &[u8], at: usize, count: usize)
         digits[2 * i + 1] = digit(octet);
         i += 1;
     }
-    text(&digits[..2 * i]);
+    text(is_well, &digits[..2 * i])
 }
 
 // The hex of octets.
-fn hex(octets: &[u8]) {
+fn hex(is_well: bool, octets: &[u8]) -> bool {
+    let mut well = is_well;
     let mut at: usize = 0;
     while octets.len() - at > 256 {
-        hex_some(octets, at, 256);
+        well = hex_some(well, octets, at, 256);
         at += 256;
     }
-    hex_some(octets, at, octets.len() - at);
+    hex_some(well, octets, at, octets.len() - at)
 }
 
 // The end of a line: a blank and a part, or `-` for an empty one.
-pub(crate) fn part(octets: &[u8]) {
+pub(crate) fn part(is_well: bool, octets: &[u8]) -> bool {
     if octets.len() == 0 {
-        text(b" -\n");
-        return;
+        return text(is_well, b" -\n");
     }
-    text(b" ");
-    hex(octets);
-    text(b"\n");
+    text(hex(text(is_well, b" "), octets), b"\n")
 }
 
 // The start of a line: a word and the number of a refusal, or 0.
-pub(crate) fn refusal(word: &[u8], number: u8) {
-    item(word, number as u64);
+pub(crate) fn refusal(word: &[u8], number: u8) -> bool {
+    item(true, word, number as u64)
 }
 
 // A whole line of a word and the number of a refusal.
-fn refused(word: &[u8], number: u8) {
-    refusal(word, number);
-    text(b"\n");
+fn refused(word: &[u8], number: u8) -> bool {
+    text(refusal(word, number), b"\n")
 }
 
 // Eight numbers, a blank before each.
-fn eight(numbers: [u16; 8]) {
+fn eight(is_well: bool, numbers: [u16; 8]) -> bool {
+    let mut well = is_well;
     let mut n: usize = 0;
     while n < 8 {
-        item(b" ", numbers[n] as u64);
+        well = item(well, b" ", numbers[n] as u64);
         n += 1;
     }
+    well
 }
 
-fn asks(asked: Request) {
-    item(b"read request ", asked.e as u64);
-    eight(frame::times_of(asked));
+fn asks(asked: Request) -> bool {
+    eight(
+        item(true, b"read request ", asked.e as u64),
+        frame::times_of(asked),
+    )
 }
 
 // What a frame is; the part follows on the same line.
-pub(crate) fn verdict(found: Verdict) {
-    match found {
-        Verdict::Data => text(b"read data"),
+pub(crate) fn verdict(found: Verdict) -> bool {
+    let well = match found {
+        Verdict::Data => text(true, b"read data"),
         Verdict::Asks(asked) => asks(asked),
         Verdict::Refused(number) => refusal(b"read ", number),
-    }
-    text(b" part");
+    };
+    text(well, b" part")
 }
 
 // What building answered; the buffer follows on the same line.
-pub(crate) fn built(answer: Built) {
+pub(crate) fn built(answer: Built) -> bool {
     match answer {
-        Built::Written => text(b"build 0"),
+        Built::Written => text(true, b"build 0"),
         Built::Refused(number) => refusal(b"build ", number),
     }
 }
@@ -125,55 +127,53 @@ fn joined(m: [bool; 8]) -> u64 {
     low + high
 }
 
-pub(crate) fn head(state: Head) {
+pub(crate) fn head(state: Head) -> bool {
     let timers = state.timers;
-    text(b"head");
-    eight(timers);
-    item(b" paused ", joined(state.marks()));
-    item(b" indications ", state.indications as u64);
-    text(b"\n");
+    let well = eight(text(true, b"head"), timers);
+    let well = item(well, b" paused ", joined(state.marks()));
+    let well = item(well, b" indications ", state.indications as u64);
+    text(well, b"\n")
 }
 
-pub(crate) fn choice(answer: Choice) {
+pub(crate) fn choice(answer: Choice) -> bool {
     match answer {
         Choice::Class(class) => refused(b"choice class ", class),
-        Choice::Nothing => text(b"choice none\n"),
+        Choice::Nothing => text(true, b"choice none\n"),
         Choice::Refused(number) => refused(b"choice ", number),
     }
 }
 
 // What is kept, in octet times, to the line's end.
-fn kept(room: Kept) {
-    item(b" G ", room.generation.0);
-    item(b" W ", room.wire.0);
-    item(b" P ", room.request.0);
-    item(b" D ", room.data.0);
-    item(b" oneway ", room.one_way.0);
-    item(b" headroom ", room.headroom.0);
-    text(b"\n");
+fn kept(is_well: bool, room: Kept) -> bool {
+    let well = item(is_well, b" G ", room.generation.0);
+    let well = item(well, b" W ", room.wire.0);
+    let well = item(well, b" P ", room.request.0);
+    let well = item(well, b" D ", room.data.0);
+    let well = item(well, b" oneway ", room.one_way.0);
+    let well = item(well, b" headroom ", room.headroom.0);
+    text(well, b"\n")
 }
 
-fn items(sum: Items) {
-    item(b"headroom link ", sum.link.0);
-    item(b" request ", sum.request_path.0);
-    item(b" data ", sum.data_path.0);
-    item(b" total ", sum.total.0);
-    kept(sum.room);
+fn items(sum: Items) -> bool {
+    let well = item(true, b"headroom link ", sum.link.0);
+    let well = item(well, b" request ", sum.request_path.0);
+    let well = item(well, b" data ", sum.data_path.0);
+    let well = item(well, b" total ", sum.total.0);
+    kept(well, sum.room)
 }
 
-pub(crate) fn summed(answer: Summed) {
+pub(crate) fn summed(answer: Summed) -> bool {
     match answer {
         Summed::Whole(sum) => items(sum),
         Summed::Refused(number) => refused(b"headroom ", number),
     }
 }
 
-fn accepted(room: Kept) {
-    text(b"settings");
-    kept(room);
+fn accepted(room: Kept) -> bool {
+    kept(text(true, b"settings"), room)
 }
 
-pub(crate) fn settling(answer: Settling) {
+pub(crate) fn settling(answer: Settling) -> bool {
     match answer {
         Settling::Accepted(room) => accepted(room),
         Settling::Refused(number) => refused(b"settings ", number),

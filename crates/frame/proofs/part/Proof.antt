@@ -36,7 +36,10 @@ slice-aggregate-result-2 : tie.Need-slice-aggregate-result-2
 slice-aggregate-result-2 c = search needs
 
 returns : tie.Need-returns
-returns c = take-rest 12 (now (c .before .before .before .before .before .args .frame)) ∙ sym (data-part _ _ _ (sym (c .before .before .before .read .ensures) ∙ c .before .enum-told .given .1))
+returns c =
+    let a = c .before .before .before .before .before .args in
+    let is-data = sym (c .before .before .before .read .ensures) ∙ c .before .enum-told .given .1 in
+    take-rest 12 (now (a .frame)) ∙ sym (data-part _ _ _ is-data)
 
 returns-2 : tie.Need-returns-2
 returns-2 c = sym (request-part _ _ _ (sym (c .before .before .before .read .ensures) ∙ c .before .enum-told2 .given .1))

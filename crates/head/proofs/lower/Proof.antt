@@ -33,7 +33,10 @@ lower-at-requires-8 c κs = search needs
 returns : tie.Need-returns
 returns c =
     eight-is (λ n. getD (c .before .before .before .before .before .before .before .before .args .timers) n 0 - 1)
-    (c .before .before .before .before .before .before .before .lower-at .ensures) (c .before .before .before .before .before .before .lower-at2 .ensures) (c .before .before .before .before .before .lower-at3 .ensures) (c .before .before .before .before .lower-at4 .ensures) (c .before .before .before .lower-at5 .ensures) (c .before .before .lower-at6 .ensures) (c .before .lower-at7 .ensures) (c .lower-at8 .ensures)
+    (c .before .before .before .before .before .before .before .lower-at .ensures) (c .before .before .before .before .before .before .lower-at2 .ensures)
+    (c .before .before .before .before .before .lower-at3 .ensures) (c .before .before .before .before .lower-at4 .ensures)
+    (c .before .before .before .lower-at5 .ensures) (c .before .before .lower-at6 .ensures)
+    (c .before .lower-at7 .ensures) (c .lower-at8 .ensures)
 
 pub lower-spec : {M : Type 1} → statement M
 lower-spec =

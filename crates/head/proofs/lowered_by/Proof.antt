@@ -35,14 +35,18 @@ loop-again : tie.Need-loop-again Inv-loop μ-loop
 loop-again c = (
   omega arith,
   omega (arith, ltb-true),
-  c .lower .ensures ∙ ap (λ (l : List ℕ). lowered l 1) (c .before .before .before .loop .inv .2) ∙ lowered-twice (c .before .before .before .before .args .timers) (c .before .before .before .loop .turn) 1,
+  c .lower .ensures
+      ∙ ap (λ (l : List ℕ). lowered l 1) (c .before .before .before .loop .inv .2)
+      ∙ lowered-twice (c .before .before .before .before .args .timers) (c .before .before .before .loop .turn) 1,
 )
 
 returns : tie.Need-returns Inv-loop μ-loop
 returns c =
     let a = c .before .before .before .args in
     let small : (n : ℕ) → Fits w16 (getD (a .timers) n 0) = λ n. search needs in
-    c .before .before .loop .inv .2 ∙ lowered-out (a .timers) 65535 (c .before .before .loop .turn) (a .count) (λ n. omega (arith, small n)) (omega (arith, ltb-false)) (omega (arith, ltb-false))
+    c .before .before .loop .inv .2
+    ∙ lowered-out (a .timers) 65535 (c .before .before .loop .turn) (a .count)
+    (λ n. omega (arith, small n)) (omega (arith, ltb-false)) (omega (arith, ltb-false))
 
 returns-2 : tie.Need-returns-2 Inv-loop μ-loop
 returns-2 c =

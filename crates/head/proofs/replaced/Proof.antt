@@ -33,7 +33,10 @@ returns : tie.Need-returns
 returns c =
     let a = c .before .before .before .before .before .before .before .before .args in
     eight-is (replacedAt (a .e) (a .enabled) (a .times) (a .timers))
-    (c .before .before .before .before .before .before .before .replaced-at .ensures) (c .before .before .before .before .before .before .replaced-at2 .ensures) (c .before .before .before .before .before .replaced-at3 .ensures) (c .before .before .before .before .replaced-at4 .ensures) (c .before .before .before .replaced-at5 .ensures) (c .before .before .replaced-at6 .ensures) (c .before .replaced-at7 .ensures) (c .replaced-at8 .ensures)
+    (c .before .before .before .before .before .before .before .replaced-at .ensures) (c .before .before .before .before .before .before .replaced-at2 .ensures)
+    (c .before .before .before .before .before .replaced-at3 .ensures) (c .before .before .before .before .replaced-at4 .ensures)
+    (c .before .before .before .replaced-at5 .ensures) (c .before .before .replaced-at6 .ensures)
+    (c .before .replaced-at7 .ensures) (c .replaced-at8 .ensures)
 
 pub replaced-spec : {M : Type 1} → statement M
 replaced-spec =

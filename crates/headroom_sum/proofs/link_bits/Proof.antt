@@ -2,7 +2,7 @@
 use mathlib.Core.Path.{refl}
 use native.Mathlib.Omega.{arith}
 use Rattle.headroom_sum.proofs.Link.{product-small, link-small}
-use Rattle.headroom_sum.specs.Headroom.{linkBits}
+use Rattle.headroom_sum.specs.Link.{linkBits}
 use borrow.Author.Needs.{needs}
 use Rattle.headroom_sum.proofs.link_bits.Statement.{statement}
 use Rattle.headroom_sum.proofs.link_bits.Tie as tie

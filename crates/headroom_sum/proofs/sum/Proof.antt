@@ -4,8 +4,11 @@ use borrow.Author.Needs.{needs}
 use Prim.Native.Nat.{_≤_}
 use native.Mathlib.Omega.{arith}
 use Rattle.ground.specs.Pick.{pick}
-use Rattle.ground.proofs.Tests.{tests}
-use Rattle.headroom_sum.proofs.Order.{gives-10, gives-11, gives-12}
+use borrow.Author.Tests.{lt-ltb, le-ltb}
+use Rattle.headroom_sum.specs.Rates.{largestRate}
+use Rattle.headroom_sum.specs.Given.{given10, given11, given12}
+use Rattle.headroom_sum.proofs.Exactly.{gives}
+use Rattle.headroom_sum.proofs.Order.{too-slow, too-fast, within-percentage}
 use Rattle.headroom_sum.proofs.Rate.{IsLimit, is-limit, is-no-rate, rate-small, limit-bits}
 use Rattle.headroom_sum.proofs.sum.Statement.{statement}
 use Rattle.headroom_sum.proofs.sum.Tie as tie
@@ -24,36 +27,51 @@ enum-told : tie.Need-enum-told
 enum-told c = search needs
 
 returns : tie.Need-returns
-returns c = gives-10 _ (is-no-rate _ _ (sym (c .enum-told .given .1) ∙ c .before .before .halt-limit .ensures))
+unfolding pick
+returns c = gives _ (given10 (is-no-rate _ _ (sym (c .enum-told .given .1) ∙ c .before .before .halt-limit .ensures)))
 
 returns-2 : tie.Need-returns-2
-returns-2 c = gives-11 _ (limited (c .before .before .before) .no10) (search tests)
+unfolding pick
+returns-2 c = gives _ (given11 (limited (c .before .before .before) .no10) (lt-ltb _ _ (c .if1 .taken)))
 
 returns-3 : tie.Need-returns-3
 unfolding pick
-returns-3 c = gives-12 _ (limited (c .before .before .before .before .before) .no10) (search tests) (search tests)
+returns-3 c =
+    gives _
+    (given12 (limited (c .before .before .before .before .before) .no10) (le-ltb _ _ (c .before .before .if1 .left)) (too-slow _ (c .if2 .taken)))
 
 returns-4 : tie.Need-returns-4
 unfolding pick
-returns-4 c = gives-12 _ (limited (c .before .before .before .before .before .before .before) .no10) (search tests) (search tests)
+returns-4 c =
+    gives _
+    (given12 (limited (c .before .before .before .before .before .before .before) .no10) (le-ltb _ _ (c .before .before .before .before .if1 .left))
+    (too-fast _ (c .before .before .if2 .left) (c .if3 .taken)))
 
 link-bits-requires : tie.Need-link-bits-requires
 link-bits-requires c κs =
-    let r : c .before .before .before .before .before .before .before .before .before .before .args .inputs .rate ≤ 100000 =
-    rate-small _ (limited (c .before .before .before .before .before .before .before) .no10)
+    let limit = c .before .before .before .before .before .before .before
+    in let start = limit .before .before .before
+    in let r : start .args .inputs .rate ≤ largestRate = rate-small _ (limited limit .no10)
     in (omega arith, omega arith, omega arith, omega arith)
 
 bits-of-quanta-requires : tie.Need-bits-of-quanta-requires
 bits-of-quanta-requires c κs = search needs
 
 after-link-requires : tie.Need-after-link-requires
-unfolding pick
 after-link-requires c κs =
-    let l = limited (c .before .before .before .before .before .before .before .before .before)
-    in (
-      record { rate = l .no10; metres = search tests; percentage = search tests },
-      (c .before .link-bits .ensures .0, c .before .link-bits .ensures .1, limit-bits _ _ _ l (c .bits-of-quanta .ensures)),
-    )
+    let tried = c .before .before
+    in let l = limited (tried .before .before .before .before .before .before .before)
+    in record {
+      before =
+          record {
+            rate = l .no10;
+            metres = le-ltb _ _ (tried .before .before .before .before .if1 .left);
+            percentage = within-percentage _ (tried .before .before .if2 .left) (tried .if3 .left);
+          };
+      link-is = c .before .link-bits .ensures .0;
+      link-most = c .before .link-bits .ensures .1;
+      halting-is = limit-bits _ _ _ l (c .bits-of-quanta .ensures);
+    }
 
 returns-5 : tie.Need-returns-5
 returns-5 c = search needs

@@ -26,7 +26,9 @@ word-at-requires-2 c κs = search needs
 
 returns-2 : tie.Need-returns-2
 unfolding pick bodyOf
-returns-2 c = ap₂ StartData (c .before .octet-at .ensures) (c .word-at2 .ensures) ∙ sym (ap (λ (k : ℕ). bodyOf k (now (c .before .before .before .before .before .args .octets))) (c .before .before .if2 .taken))
+returns-2 c =
+    let o = now (c .before .before .before .before .before .args .octets) in
+    ap₂ StartData (c .before .octet-at .ensures) (c .word-at2 .ensures) ∙ sym (ap (λ (k : ℕ). bodyOf k o) (c .before .before .if2 .taken))
 
 returns-3 : tie.Need-returns-3
 unfolding pick bodyOf
@@ -37,7 +39,9 @@ word-at-requires-3 c κs = search needs
 
 returns-4 : tie.Need-returns-4
 unfolding pick bodyOf
-returns-4 c = ap StartOther (c .word-at3 .ensures) ∙ sym (ap (λ (k : ℕ). bodyOf k (now (c .before .before .before .before .before .before .args .octets))) (c .before .if4 .taken))
+returns-4 c =
+    let o = now (c .before .before .before .before .before .before .args .octets) in
+    ap StartOther (c .word-at3 .ensures) ∙ sym (ap (λ (k : ℕ). bodyOf k o) (c .before .if4 .taken))
 
 returns-5 : tie.Need-returns-5
 unfolding pick bodyOf
@@ -57,7 +61,14 @@ returns-7 : tie.Need-returns-7
 unfolding bodyOf
 returns-7 c =
     let a = c .before .before .before .before .before .before .before .before .before .args in
-    ap₂ TakeOctets (c .before .octet-at2 .ensures) (c .word-at4 .ensures) ∙ sym (pick-no _ _ (ne-eqb (a .kind) 1 (c .before .before .before .before .before .before .before .if1 .left)) ∙ pick-no _ _ (ne-eqb (a .kind) 2 (c .before .before .before .before .before .before .if2 .left)) ∙ pick-no _ _ (ne-eqb (a .kind) 3 (c .before .before .before .before .before .if3 .left)) ∙ pick-no _ _ (ne-eqb (a .kind) 4 (c .before .before .before .before .if4 .left)) ∙ pick-no _ _ (ne-eqb (a .kind) 5 (c .before .before .before .if5 .left)) ∙ pick-no _ _ (ne-eqb (a .kind) 6 (c .before .before .if6 .left)))
+    ap₂ TakeOctets (c .before .octet-at2 .ensures) (c .word-at4 .ensures)
+    ∙ sym
+    (pick-no _ _ (ne-eqb (a .kind) 1 (c .before .before .before .before .before .before .before .if1 .left))
+    ∙ pick-no _ _ (ne-eqb (a .kind) 2 (c .before .before .before .before .before .before .if2 .left))
+    ∙ pick-no _ _ (ne-eqb (a .kind) 3 (c .before .before .before .before .before .if3 .left))
+    ∙ pick-no _ _ (ne-eqb (a .kind) 4 (c .before .before .before .before .if4 .left))
+    ∙ pick-no _ _ (ne-eqb (a .kind) 5 (c .before .before .before .if5 .left))
+    ∙ pick-no _ _ (ne-eqb (a .kind) 6 (c .before .before .if6 .left)))
 
 pub body-spec : {M : Type 1} → statement M
 body-spec =

@@ -1,7 +1,7 @@
 -- `records::decode` meets its contract. Assumes nothing.
 use Rattle.records.specs.declared.Record.the-variants.{Refused}
 use Rattle.records.specs.Records.{bodyOf, sizedRefusal, octetsRefusal, decoded}
-use Rattle.frame.specs.Layout.{octetAt}
+use Rattle.octets.specs.Numbers.{octetAt}
 use Rattle.ground.proofs.Pick.{pick-yes, pick-no}
 use denote.Ref.{now}
 use borrow.Author.Tests.{eq-eqb, ne-eqb}
@@ -46,7 +46,9 @@ returns-2 c =
     c .before .before .refusal .ensures ∙
     ap (λ (k : ℕ). sizedRefusal (c .before .before .before .before .octet-at .result) (length o) (1 + k)) (c .before .before .before .body-length .ensures .0) ∙
     ap (λ (k : ℕ). octetsRefusal k (length o)) (c .before .before .before .before .octet-at .ensures) in
-    c .body .ensures ∙ ap (λ (k : ℕ). bodyOf k o) (c .before .before .before .before .octet-at .ensures) ∙ sym (pick-yes _ _ (ap (λ (k : ℕ). eqb k 0) (sym is) ∙ eq-eqb (c .before .before .refusal .result) 0 (c .before .if1 .left)))
+    c .body .ensures
+    ∙ ap (λ (k : ℕ). bodyOf k o) (c .before .before .before .before .octet-at .ensures)
+    ∙ sym (pick-yes _ _ (ap (λ (k : ℕ). eqb k 0) (sym is) ∙ eq-eqb (c .before .before .refusal .result) 0 (c .before .if1 .left)))
 
 pub decode-spec : {M : Type 1} → statement M
 decode-spec =

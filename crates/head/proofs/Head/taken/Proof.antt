@@ -7,11 +7,11 @@ use borrow.Author.Needs.{needs}
 use Rattle.head.proofs.Head.taken.Statement.{statement}
 use Rattle.head.proofs.Head.taken.Tie as tie
 
-bits-of-requires : tie.Need-bits-of-requires
-bits-of-requires c κs = search needs
+bits-requires : tie.Need-bits-requires
+bits-requires c κs = search needs
 
-bits-of-requires-2 : tie.Need-bits-of-requires-2
-bits-of-requires-2 c κs = search needs
+bits-requires-2 : tie.Need-bits-requires-2
+bits-requires-2 c κs = search needs
 
 replaced-requires : tie.Need-replaced-requires
 replaced-requires c κs = search needs
@@ -23,15 +23,17 @@ returns : tie.Need-returns
 returns c =
     let a = c .before .before .before .before .before .args in
     heads-equal (a .self .enabled)
-    (c .before .replaced .ensures ∙ ap₂ (λ e enabled. replacedAll e enabled (a .times) (a .self .timers)) (c .before .before .before .bits-of .ensures) (c .before .before .bits-of2 .ensures) ∙ replaced-all (a .self) (a .e) (a .times))
+    (c .before .replaced .ensures
+    ∙ ap₂ (λ e enabled. replacedAll e enabled (a .times) (a .self .timers)) (c .before .before .before .bits .ensures) (c .before .before .bits2 .ensures)
+    ∙ replaced-all (a .self) (a .e) (a .times))
     (c .counted .ensures)
 
 pub taken-spec : {M : Type 1} → statement M
 taken-spec =
     tie.close
     (tie.spec
-    bits-of-requires
-    bits-of-requires-2
+    bits-requires
+    bits-requires-2
     replaced-requires
     counted-requires
     returns)

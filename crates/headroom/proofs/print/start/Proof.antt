@@ -5,14 +5,14 @@ use borrow.Author.Needs.{needs}
 use Rattle.headroom.proofs.print.start.Statement.{statement}
 use Rattle.headroom.proofs.print.start.Tie as tie
 
-slice-aggregate-text : tie.Need-slice-aggregate-text
-slice-aggregate-text c = simp length-take (omega arith)
+slice-aggregate-put : tie.Need-slice-aggregate-put
+slice-aggregate-put c = simp length-take (omega arith)
 
-text-requires : tie.Need-text-requires
-text-requires c κs = search needs
+put-requires : tie.Need-put-requires
+put-requires c κs = search needs
 
-text-requires-2 : tie.Need-text-requires-2
-text-requires-2 c κs = search needs
+put-requires-2 : tie.Need-put-requires-2
+put-requires-2 c κs = search needs
 
 returns : tie.Need-returns
 returns c = search needs
@@ -22,4 +22,4 @@ returns-2 c = search needs
 
 pub start-spec : {M : Type 1} → statement M
 start-spec =
-    tie.close (tie.spec slice-aggregate-text text-requires text-requires-2 returns returns-2)
+    tie.close (tie.spec slice-aggregate-put put-requires put-requires-2 returns returns-2)

@@ -5,10 +5,10 @@ use Rattle.vectors.proofs.print.eight.Statement.{statement}
 use Rattle.vectors.proofs.print.eight.Tie as tie
 
 abbrev Inv-loop : tie.InvT-loop
-Inv-loop numbers n₀ t4 n = n ≤ 8
+Inv-loop «is_well» numbers well₀ n₀ t4 well n = n ≤ 8
 
 abbrev μ-loop : tie.MeasureT-loop
-μ-loop numbers n₀ t4 n = 8 - n
+μ-loop «is_well» numbers well₀ n₀ t4 well n = 8 - n
 
 loop-holds : tie.Need-loop-holds Inv-loop μ-loop
 loop-holds c = search needs

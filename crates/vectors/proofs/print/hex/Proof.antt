@@ -6,10 +6,10 @@ use Rattle.vectors.proofs.print.hex.Statement.{statement}
 use Rattle.vectors.proofs.print.hex.Tie as tie
 
 abbrev Inv-loop : tie.InvT-loop
-Inv-loop octets at₀ at = at ≤ length octets
+Inv-loop «is_well» octets well₀ at₀ well at = at ≤ length octets
 
 abbrev μ-loop : tie.MeasureT-loop
-μ-loop octets at₀ at = length octets - at
+μ-loop «is_well» octets well₀ at₀ well at = length octets - at
 
 loop-holds : tie.Need-loop-holds Inv-loop μ-loop
 loop-holds c = search needs

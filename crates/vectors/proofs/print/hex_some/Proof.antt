@@ -8,10 +8,10 @@ use Rattle.vectors.proofs.print.hex_some.Statement.{statement}
 use Rattle.vectors.proofs.print.hex_some.Tie as tie
 
 abbrev Inv-loop : tie.InvT-loop
-Inv-loop octets at count digits₀ i₀ digits i = (i ≤ count) × (length digits ≡ 512)
+Inv-loop «is_well» octets at count digits₀ i₀ digits i = (i ≤ count) × (length digits ≡ 512)
 
 abbrev μ-loop : tie.MeasureT-loop
-μ-loop octets at count digits₀ i₀ digits i = count - i
+μ-loop «is_well» octets at count digits₀ i₀ digits i = count - i
 
 loop-holds : tie.Need-loop-holds Inv-loop μ-loop
 loop-holds c = search needs

@@ -1,0 +1,3 @@
+-- Laws of a run.
+pub mod Decided
+pub mod Running

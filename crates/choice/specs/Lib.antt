@@ -1,0 +1,3 @@
+-- What the contract and the laws of choice cite.
+pub mod Answers
+pub mod Choice

@@ -1,0 +1,2 @@
+-- The laws and the proofs of this crate.
+pub mod Rest

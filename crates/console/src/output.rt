@@ -1,0 +1,118 @@
+// Writing on standard output, and a line on standard error. A write on standard output that fails is told on standard error.
+use crate::words;
+use libc::STDERR_FILENO;
+use libc::STDOUT_FILENO;
+use page::Page;
+ghost use Prim.Native.Nat.{_<_, _≤_};
+ghost use mathlib.Core.Path.{_≡_};
+ghost use mathlib.Core.Bool.{false};
+ghost use lib.ListN.{length};
+
+// What one call gave: so many octets, and the system's number of its error or 0.
+struct Turn {
+    count: usize,
+    error: i32,
+}
+
+// What a call that failed comes to: an interrupted one is tried again.
+fn failed(error: i32) -> Turn
+    ensures { λ r. ⌜ r .count ≤ 0 ⌝ }
+{
+    if error == libc::EINTR {
+        return Turn { count: 0, error: 0 };
+    }
+    Turn { count: 0, error }
+}
+
+// One write of what is left. One that takes nothing, which no file should do, counts as an error of the device.
+fn write_once(rest: &[u8]) -> Turn
+    ensures { λ r. ⌜ r .count ≤ length (now (rest .entry)) ⌝ }
+{
+    let put = libc::write(STDOUT_FILENO, rest);
+    if put < 0 {
+        return failed(os::errno());
+    }
+    if put == 0 {
+        return failed(libc::EIO);
+    }
+    Turn {
+        count: io::count(put, rest),
+        error: 0,
+    }
+}
+
+// Writes all of these octets: the number of the error of a write that failed, or 0.
+fn write_all(octets: &[u8]) -> i32 {
+    let mut at: usize = 0;
+    let mut turns = u64::MAX;
+    while turns > 0 {
+        if at == octets.len() {
+            return 0;
+        }
+        let turn = write_once(&octets[at..]);
+        if turn.error != 0 {
+            return turn.error;
+        }
+        at += turn.count;
+        turns -= 1;
+    }
+    libc::EINTR
+}
+
+// Writes all of these octets, and answers whether that was done. A write that fails is told, behind the program's name.
+fn tried(name: &[u8], octets: &[u8]) -> bool {
+    let error = write_all(octets);
+    if error != 0 {
+        words::unwritten(name, error);
+    }
+    error == 0
+}
+
+// Writes these octets where all before them were written, and answers whether that is so of them too. A write that fails is told on
+// standard error, behind the program's name; after it nothing more is written.
+pub fn write(name: &[u8], is_well: bool, octets: &[u8]) -> bool
+    ensures { λ r. ⌜ («is_well» ≡ false → r ≡ false) ⌝ }
+{
+    if is_well {
+        return tried(name, octets);
+    }
+    false
+}
+
+// Writes the first octets, as many as are used. More used than there are is told, and nothing is written.
+fn write_first(name: &[u8], octets: &[u8], used: usize) -> bool
+    ensures { λ r. ⌜ (length (now (octets .entry)) < used → r ≡ false) ⌝ }
+{
+    if octets.len() < used {
+        words::overfull(name);
+        return false;
+    }
+    tried(name, &octets[..used])
+}
+
+// Writes what is on a page, and answers whether all of it was written. A write that fails is told as by `write`; so is an overfull page, of
+// which nothing is written.
+pub fn write_page(name: &[u8], page: Page) -> bool
+    ensures { λ r. ⌜ (length (page .octets) < page .used → r ≡ false) ⌝ }
+{
+    let octets = page.octets;
+    write_first(name, &octets, page.used)
+}
+
+// The first octets on standard error, as many as are used; nothing where more are used than there are.
+fn remark_first(octets: &[u8], used: usize) -> bool
+    ensures { λ r. ⌜ (length (now (octets .entry)) < used → r ≡ false) ⌝ }
+{
+    if used > octets.len() {
+        return false;
+    }
+    io::write_all(STDERR_FILENO, &octets[..used])
+}
+
+// Writes what is on a page on standard error, and answers whether all of it was written. Of an overfull page nothing is.
+pub fn remark(page: Page) -> bool
+    ensures { λ r. ⌜ (length (page .octets) < page .used → r ≡ false) ⌝ }
+{
+    let octets = page.octets;
+    remark_first(&octets, page.used)
+}

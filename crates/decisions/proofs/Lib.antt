@@ -1,0 +1,2 @@
+-- Determinacy of the decisions.
+pub mod Decided

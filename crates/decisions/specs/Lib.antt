@@ -1,0 +1,2 @@
+-- What the decisions' contracts cite.
+pub mod Chains

@@ -1,0 +1,4 @@
+-- Laws of building, and the round trip.
+pub mod Building
+pub mod Decided
+pub mod RoundTrip

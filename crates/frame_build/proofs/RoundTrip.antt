@@ -1,0 +1,43 @@
+-- The round trip: a frame that is built reads back as the same request, its enable octet and all eight times, for every source, every
+-- own address and every M from 64 to 9,216, with any octets after the sixtieth that M leaves room for. It is for whoever builds at one
+-- end and reads at the other. It assumes that each time fits its two octets, as the builder's type says.
+use Prim.Native.Nat.{ℕ, _+_, _*_, _/_, _%_, _-_, _<_, _≤_}
+use mathlib.Core.Path.{_≡_, ap, _∙_}
+use mathlib.Core.List.{List, _++_}
+use native.Mathlib.Omega.{arith}
+use lib.ListN.{length, getD}
+use borrow.Author.Tests.{le-ltb, eq-eqb}
+use Rattle.ground.specs.Pick.{pick}
+use Rattle.ground.proofs.Pick.{pick-yes, pick-no}
+use Rattle.frame_build.specs.Build.{builtFrame}
+use Rattle.frame.specs.Read.{sizeRefusal, isAccepted, controlVerdict, wholeVerdict, verdict, requestOf, requestIn}
+use Rattle.frame.specs.declared.Verdict.the-variants.{Asks}
+
+-- within the limits none of 13, 1 and 2 is given
+pub size-passes : (size M : ℕ) → 64 ≤ M → M ≤ 9216 → 60 ≤ size → size ≤ M - 4 → sizeRefusal size M ≡ 0
+unfolding sizeRefusal
+size-passes size M least most whole fits =
+    pick-no 13 _ (le-ltb M 64 least) ∙
+    pick-no 13 _ (le-ltb 9216 M most) ∙
+    pick-no 1 _ (le-ltb size 60 whole) ∙
+    pick-no 2 0 (le-ltb (M - 4) size fits)
+
+-- the two octets of a time make the time again
+rejoined : (times : List ℕ) → ((n : ℕ) → getD times n 0 < 65536) → (n : ℕ) →
+    256 * (getD times n 0 / 256 % 256) + getD times n 0 % 256 ≡ getD times n 0
+rejoined times fit n = omega (arith, fit n)
+
+-- the request in a built frame is the one that it was built of
+request-kept : (source : List ℕ) (e : ℕ) (times rest : List ℕ) → ((n : ℕ) → getD times n 0 < 65536) →
+    requestIn (builtFrame source e times ++ rest) ≡ requestOf e times
+request-kept source e times rest fit =
+    let kept = rejoined times fit in
+    cc (kept 0, kept 1, kept 2, kept 3, kept 4, kept 5, kept 6, kept 7)
+
+pub reads-back : (source : List ℕ) (e : ℕ) (times rest own : List ℕ) (M : ℕ) → 64 ≤ M → M ≤ 9216 → 60 + length rest ≤ M - 4 →
+    ((n : ℕ) → getD times n 0 < 65536) → verdict (builtFrame source e times ++ rest) M own ≡ Asks (requestOf e times)
+unfolding verdict wholeVerdict controlVerdict isAccepted pick
+reads-back source e times rest own M least most room fit =
+    let size = length (builtFrame source e times ++ rest) in
+    pick-yes _ _ (eq-eqb (sizeRefusal size M) 0 (size-passes size M least most (omega arith) (omega arith))) ∙
+    ap Asks (request-kept source e times rest fit)

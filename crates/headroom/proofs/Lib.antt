@@ -1,2 +1,0 @@
--- Laws of the words.
-pub mod Reading

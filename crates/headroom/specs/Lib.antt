@@ -1,2 +1,0 @@
--- What the contracts of the program's words cite.
-pub mod Words

@@ -1,0 +1,4 @@
+-- Laws of the rows and of their stacks.
+pub mod Decided
+pub mod Rows
+pub mod Stack

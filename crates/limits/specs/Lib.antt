@@ -1,0 +1,2 @@
+-- What contracts cite where a limit decides.
+pub mod Limits

@@ -1,0 +1,2 @@
+-- What the contracts and laws of moments cite.
+pub mod Moments

@@ -1,0 +1,2 @@
+-- What the contracts of octets and their bits cite.
+pub mod Numbers

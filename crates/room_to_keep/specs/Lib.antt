@@ -1,0 +1,2 @@
+-- What the contract of `keep` cites.
+pub mod Keep

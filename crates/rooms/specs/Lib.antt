@@ -1,0 +1,3 @@
+-- What the contracts and laws of rooms cite.
+pub mod Room
+pub mod RoomRun

@@ -1,0 +1,3 @@
+-- Laws of the sender.
+pub mod Decided
+pub mod Sending

@@ -1,0 +1,2 @@
+-- What the sender's contracts cite.
+pub mod Sender

@@ -1,0 +1,4 @@
+-- Laws of a walk.
+pub mod Decided
+pub mod WalkLaws
+pub mod Walking
