@@ -7,6 +7,7 @@ use crate::frame::{self, Address, Verdict, PFC_FRAME_OCTETS, SMALLEST_M};
 use crate::head::Head;
 use crate::headroom::{wire_time, Delays, PFC_WIRE_TIME};
 use crate::octets::Octets;
+use crate::order::{refuse_first, Line};
 use crate::recorder::Recorder;
 use crate::refusal::{refuse_if, Refusal};
 use crate::settings::Settings;
@@ -76,13 +77,62 @@ fn write_kind(input: &mut Vec<u8>, kind: u8, priority: &[u8], number: Option<u16
     input.extend(number.map(u16::to_be_bytes).iter().flatten());
 }
 
+/// The octets of each kind's body; a kind above 07 has no body.
+const BODY_OCTETS: [usize; 8] = [57, 2, 3, 0, 2, 0, 0, 3];
+
+/// A record as the order line of records looks at it.
+struct Form {
+    input_too_long: bool,
+    is_first: bool,
+    /// None where the input is empty.
+    kind: Option<u8>,
+    /// How many octets stand after the kind.
+    octets_left: usize,
+}
+
+impl Form {
+    fn accept(&self) -> Result<(), Refusal> {
+        refuse_first!(
+            Line::Records,
+            [
+                (Refusal::InputTooLong, self.input_too_long),
+                (
+                    Refusal::SettingsMissingOrRepeated,
+                    self.lacks_or_repeats_settings()
+                ),
+                (Refusal::KindAbove7, self.kind.is_some_and(|kind| kind > 7)),
+                (Refusal::BodyCutShort, self.is_cut_short()),
+            ],
+        )
+    }
+
+    fn lacks_or_repeats_settings(&self) -> bool {
+        let is_settings = self.kind.is_some_and(|kind| kind == SETTINGS_KIND);
+        let spared = slipped(Slip::CutSettingsGive31) && is_settings && self.is_cut_short();
+        is_settings != self.is_first && !spared
+    }
+
+    fn is_cut_short(&self) -> bool {
+        let octets = self
+            .kind
+            .and_then(|kind| BODY_OCTETS.get(usize::from(kind)));
+        octets.is_some_and(|&octets| self.octets_left < octets)
+    }
+}
+
+/// What a record whose form is accepted always has.
+const WHOLE_BODY: &str = "a body that is not cut short";
+
 /// Takes the settings, the first record, from the front of the input.
 fn take_settings(input: &mut Octets) -> Result<Settings, Refusal> {
-    refuse_if(
-        input.number1() != Some(SETTINGS_KIND),
-        Refusal::SettingsMissingOrRepeated,
-    )?;
-    settings_body(input).ok_or(Refusal::BodyCutShort)
+    let form = Form {
+        input_too_long: input.count() > LONGEST_INPUT,
+        is_first: true,
+        kind: input.number1(),
+        octets_left: input.count(),
+    };
+    form.accept()?;
+    Ok(settings_body(input).expect(WHOLE_BODY))
 }
 
 fn settings_body(input: &mut Octets) -> Option<Settings> {
@@ -105,13 +155,15 @@ fn settings_body(input: &mut Octets) -> Option<Settings> {
 
 /// Takes a later record of this kind from the input, which stands after the octet of kind.
 fn take_record(kind: u8, input: &mut Octets) -> Result<Record, Refusal> {
-    let repeated = kind == SETTINGS_KIND;
-    if repeated && slipped(Slip::CutSettingsGive31) {
-        settings_body(input).ok_or(Refusal::BodyCutShort)?;
-    }
-    refuse_if(repeated, Refusal::SettingsMissingOrRepeated)?;
-    refuse_if(kind > 7, Refusal::KindAbove7)?;
-    record_body(kind, input).ok_or(Refusal::BodyCutShort)
+    let form = Form {
+        // An input that is too long has been refused at its first record.
+        input_too_long: false,
+        is_first: false,
+        kind: Some(kind),
+        octets_left: input.count(),
+    };
+    form.accept()?;
+    Ok(record_body(kind, input).expect(WHOLE_BODY))
 }
 
 fn record_body(kind: u8, input: &mut Octets) -> Option<Record> {
@@ -182,17 +234,18 @@ impl<Frame> Direction<Frame> {
         self.oldest_ends().map(|end| end + self.path)
     }
 
-    fn try_wire_free(&self, now: OctetTimes) -> Result<(), Refusal> {
+    fn is_busy(&self, now: OctetTimes) -> bool {
         let mut is_free = now >= self.wire_free_from;
         if slipped(Slip::WireFreeOneLater) {
             is_free &= now != self.wire_free_from || now == OctetTimes(0);
         }
-        refuse_if(!is_free, Refusal::WireBusy)
+        !is_free
     }
 
-    fn try_place(&self) -> Result<(), Refusal> {
+    /// Whether as many frames are under way as may be.
+    fn is_full(&self) -> bool {
         let most = MOST_UNDER_WAY - usize::from(slipped(Slip::Only127UnderWay));
-        refuse_if(self.under_way.len() >= most, Refusal::TooManyUnderWay)
+        self.under_way.len() >= most
     }
 
     /// The wire is held from now on.
@@ -299,6 +352,7 @@ impl Bench {
     /// Walks n octet times one by one. The walk goes on copies, so that n is taken whole or not
     /// at all; nothing arrives in it, so the bound of the frames under way stays what it is.
     fn wait(&mut self, n: u16) -> Result<(), Refusal> {
+        // The order of kind 01: 41, 40. No input reaches 41, so no slip of it could be noticed.
         let end = self.time + OctetTimes(n.into());
         refuse_if(end > LAST_TIME, Refusal::TimeTooLate)?;
         let mut due_since = self.recorder.due_since();
@@ -366,17 +420,16 @@ impl Bench {
     }
 
     fn start_data(&mut self, priority: u8, length: u16) -> Result<(), Refusal> {
-        try_priority(priority)?;
-        if slipped(Slip::BusyBeforeLength) {
-            self.data.try_wire_free(self.time)?;
-        }
-        self.try_length(length)?;
-        self.data.try_wire_free(self.time)?;
-        if slipped(Slip::CrowdBeforePause) {
-            self.data.try_place()?;
-        }
-        refuse_if(self.head.is_paused(priority.into()), Refusal::PausedAtA)?;
-        self.data.try_place()?;
+        refuse_first!(
+            Line::Kind02,
+            [
+                (Refusal::PriorityAbove7, priority > 7),
+                (Refusal::Length, self.is_no_length(length)),
+                (Refusal::WireBusy, self.data.is_busy(self.time)),
+                (Refusal::PausedAtA, self.head.is_paused(priority.into())),
+                (Refusal::TooManyUnderWay, self.data.is_full()),
+            ],
+        )?;
         let frame = DataFrame { priority, length };
         self.data
             .start(frame, self.time, wire_time(u64::from(length)));
@@ -392,9 +445,14 @@ impl Bench {
 
     /// Some other frame of B only holds the wire.
     fn start_other(&mut self, length: u16) -> Result<(), Refusal> {
-        self.try_length(length)?;
-        self.requests.try_wire_free(self.time)?;
-        refuse_if(self.is_too_late_for_other(), Refusal::OtherFrameTooLate)?;
+        refuse_first!(
+            Line::Kind04,
+            [
+                (Refusal::Length, self.is_no_length(length)),
+                (Refusal::WireBusy, self.requests.is_busy(self.time)),
+                (Refusal::OtherFrameTooLate, self.is_too_late_for_other()),
+            ],
+        )?;
         self.requests
             .hold_wire(self.time, wire_time(u64::from(length)));
         Ok(())
@@ -416,12 +474,14 @@ impl Bench {
     }
 
     fn start_pfc(&mut self) -> Result<(), Refusal> {
-        if slipped(Slip::BusyBeforeNotDue) {
-            self.requests.try_wire_free(self.time)?;
-        }
-        refuse_if(self.recorder.due_since().is_none(), Refusal::NotDue)?;
-        self.requests.try_wire_free(self.time)?;
-        self.requests.try_place()?;
+        refuse_first!(
+            Line::Kind05,
+            [
+                (Refusal::NotDue, self.recorder.due_since().is_none()),
+                (Refusal::WireBusy, self.requests.is_busy(self.time)),
+                (Refusal::TooManyUnderWay, self.requests.is_full()),
+            ],
+        )?;
         let request = self.recorder.start_pfc(self.time);
         let mut octets = [0; PFC_FRAME_OCTETS];
         frame::build(&ADDRESS_OF_B, &request, &mut octets)
@@ -445,19 +505,14 @@ impl Bench {
     }
 
     fn disk_takes(&mut self, priority: u8, octets: u16) -> Result<(), Refusal> {
-        try_priority(priority)?;
         self.recorder
             .take(priority.into(), octets.into(), self.time)
     }
 
-    fn try_length(&self, length: u16) -> Result<(), Refusal> {
+    fn is_no_length(&self, length: u16) -> bool {
         let allowed = SMALLEST_M..=self.settings.largest_frame;
-        refuse_if(!allowed.contains(&length.into()), Refusal::Length)
+        !allowed.contains(&length.into())
     }
-}
-
-fn try_priority(priority: u8) -> Result<(), Refusal> {
-    refuse_if(priority > 7, Refusal::PriorityAbove7)
 }
 
 /// What the bench program prints.
@@ -543,9 +598,6 @@ pub fn run(input: &[u8]) -> Report {
 
 /// As `run`; the watcher sees each accepted record and the state after it.
 pub fn run_watched(input: &[u8], mut watcher: impl FnMut(Record, &Bench)) -> Report {
-    if input.len() > LONGEST_INPUT {
-        return Report::without_state(Refusal::InputTooLong);
-    }
     let mut input = Octets::new(input);
     let mut bench = match take_settings(&mut input).and_then(Bench::new) {
         Ok(bench) => bench,

@@ -1,7 +1,8 @@
 //! The PFC frame: reading any frame, building a PFC frame.
 
 use crate::octets::Octets;
-use crate::refusal::{refuse_if, Refusal};
+use crate::order::{first_of, refuse_first, Line};
+use crate::refusal::Refusal;
 use crate::slips::{slipped, Slip};
 use crate::PRIORITIES;
 
@@ -41,35 +42,46 @@ pub enum Verdict {
     Request(Request),
 }
 
-/// Refusal 13, shared by reading, headroom and settings.
-pub fn try_largest_frame(largest_frame: u64) -> Result<(), Refusal> {
-    refuse_if(
-        !(SMALLEST_M..=LARGEST_M).contains(&largest_frame),
-        Refusal::LargestFrame,
-    )
+/// The condition of refusal 13, shared by reading, headroom and settings.
+pub fn is_no_largest_frame(largest_frame: u64) -> bool {
+    !(SMALLEST_M..=LARGEST_M).contains(&largest_frame)
 }
 
 /// Reads a frame without FCS at a station with this own address, taken as given.
 pub fn verdict(largest_frame: u64, own: &Address, frame: &[u8]) -> Result<Verdict, Refusal> {
-    try_largest_frame(largest_frame)?;
-    let length = frame.len() as u64;
-    refuse_if(frame.len() < PFC_FRAME_OCTETS, Refusal::FrameTooShort)?;
-    refuse_if(
-        length > longest_without_fcs(largest_frame),
-        Refusal::FrameTooLong,
-    )?;
-    if slipped(Slip::AddressBeforeType) {
-        try_destination(own, frame)?;
+    let found = first_of!(
+        Line::Reading,
+        [
+            (
+                Err(Refusal::LargestFrame),
+                is_no_largest_frame(largest_frame)
+            ),
+            (Err(Refusal::FrameTooShort), frame.len() < PFC_FRAME_OCTETS),
+            (
+                Err(Refusal::FrameTooLong),
+                frame.len() as u64 > longest_without_fcs(largest_frame)
+            ),
+            (Ok(()), has_other(frame, TYPE_AT, MAC_CONTROL_TYPE)),
+            (
+                Err(Refusal::OtherAddress),
+                has_other(frame, 0, GROUP_ADDRESS) && has_other(frame, 0, *own)
+            ),
+            (
+                Err(Refusal::OtherOpcode),
+                has_other(frame, OPCODE_AT, PFC_OPCODE)
+            ),
+        ],
+    );
+    match found {
+        Some(Ok(())) => Ok(Verdict::Data),
+        Some(Err(refusal)) => Err(refusal),
+        None => Ok(Verdict::Request(request_in(frame))),
     }
-    if frame[TYPE_AT..OPCODE_AT] != MAC_CONTROL_TYPE {
-        return Ok(Verdict::Data);
-    }
-    try_destination(own, frame)?;
-    refuse_if(
-        frame[OPCODE_AT..ENABLE_VECTOR_AT] != PFC_OPCODE,
-        Refusal::OtherOpcode,
-    )?;
-    Ok(Verdict::Request(request_in(frame)))
+}
+
+/// Whether other octets stand at this place. A frame that ends before it has none there.
+fn has_other<const N: usize>(frame: &[u8], at: usize, octets: [u8; N]) -> bool {
+    frame.get(at..at + N).is_some_and(|found| found != octets)
 }
 
 /// The part of the caller's own frame that is handed back: from octet 12 on for data, else empty.
@@ -84,18 +96,13 @@ fn longest_without_fcs(largest_frame: u64) -> u64 {
     if slipped(Slip::FrameUpToM) {
         return largest_frame;
     }
-    largest_frame - FCS_OCTETS
-}
-
-fn try_destination(own: &Address, frame: &[u8]) -> Result<(), Refusal> {
-    let destination = &frame[..own.len()];
-    refuse_if(
-        destination != GROUP_ADDRESS && destination != own,
-        Refusal::OtherAddress,
-    )
+    largest_frame.saturating_sub(FCS_OCTETS)
 }
 
 /// The request of a frame already found to be a PFC frame of at least 60 octets.
+///
+/// Never inlined: on its own it takes the eight times as one row.
+#[inline(never)]
 fn request_in(frame: &[u8]) -> Request {
     let [first, mut e] = [frame[ENABLE_VECTOR_AT], frame[ENABLE_VECTOR_AT + 1]];
     if slipped(Slip::FirstEnableOctetRead) {
@@ -112,10 +119,17 @@ fn request_in(frame: &[u8]) -> Request {
 
 /// Builds the PFC frame in the first 60 octets of the buffer; all others, and all at a refusal, stay.
 pub fn build(source: &Address, request: &Request, buffer: &mut [u8]) -> Result<(), Refusal> {
-    let frame = buffer
-        .get_mut(..PFC_FRAME_OCTETS)
-        .ok_or(Refusal::ControlBufferTooShort)?;
-    refuse_if(source[0] & 1 == 1, Refusal::GroupSource)?;
+    refuse_first!(
+        Line::Building,
+        [
+            (
+                Refusal::ControlBufferTooShort,
+                buffer.len() < PFC_FRAME_OCTETS
+            ),
+            (Refusal::GroupSource, source[0] & 1 == 1),
+        ],
+    )?;
+    let frame = &mut buffer[..PFC_FRAME_OCTETS];
     frame[..6].copy_from_slice(&GROUP_ADDRESS);
     frame[6..TYPE_AT].copy_from_slice(source);
     frame[TYPE_AT..OPCODE_AT].copy_from_slice(&MAC_CONTROL_TYPE);

@@ -1,7 +1,8 @@
 //! Station A, the head: its eight pause timers and the choice of the next frame.
 
 use crate::frame::Request;
-use crate::refusal::{refuse_if, Refusal};
+use crate::order::{refuse_first, Line};
+use crate::refusal::Refusal;
 use crate::slips::{slipped, Slip};
 use crate::units::Quanta;
 use crate::{bit, PRIORITIES};
@@ -56,8 +57,9 @@ impl Head {
         }
     }
 
+    /// A priority above 7 has no timer.
     pub fn is_paused(&self, priority: usize) -> bool {
-        self.timers[priority] > 0
+        self.timers.get(priority).is_some_and(|&timer| timer > 0)
     }
 
     /// Bit n: priority n is paused.
@@ -80,17 +82,22 @@ pub fn choose(
     class_of: &[u8; PRIORITIES],
     paused: u8,
 ) -> Result<Option<usize>, Refusal> {
-    if slipped(Slip::HeadsBeforeMap) {
-        try_heads(heads)?;
-    }
-    refuse_if(
-        class_of.iter().any(|&class| class > 7),
-        Refusal::MapEntryAbove7,
-    )?;
-    try_heads(heads)?;
-    refuse_if(
-        (0..PRIORITIES).any(|class| is_of_other_class(heads, class_of, class)),
-        Refusal::HeadOfOtherClass,
+    refuse_first!(
+        Line::Choice,
+        [
+            (
+                Refusal::MapEntryAbove7,
+                class_of.iter().any(|&class| class > 7)
+            ),
+            (
+                Refusal::HeadAbove8,
+                heads.iter().any(|&head| head > EMPTY_QUEUE)
+            ),
+            (
+                Refusal::HeadOfOtherClass,
+                (0..PRIORITIES).any(|class| is_of_other_class(heads, class_of, class))
+            ),
+        ],
     )?;
     let mut present = (0..PRIORITIES)
         .rev()
@@ -103,14 +110,10 @@ pub fn choose(
     Ok(present.find(|&class| !bit(paused, heads[class].into())))
 }
 
-fn try_heads(heads: &[u8; PRIORITIES]) -> Result<(), Refusal> {
-    refuse_if(
-        heads.iter().any(|&head| head > EMPTY_QUEUE),
-        Refusal::HeadAbove8,
-    )
-}
-
+/// Whether the class has a head that its map gives another class; the map says nothing of an empty
+/// queue or of a head above 8.
 fn is_of_other_class(heads: &[u8; 8], class_of: &[u8; 8], class: usize) -> bool {
-    let head = heads[class];
-    head != EMPTY_QUEUE && usize::from(class_of[usize::from(head)]) != class
+    class_of
+        .get(usize::from(heads[class]))
+        .is_some_and(|&given| usize::from(given) != class)
 }

@@ -1,12 +1,13 @@
 //! The headroom sum of Annex N as document 01 states it, and Table N-1.
 
-use crate::frame::try_largest_frame;
-use crate::refusal::{refuse_if, Refusal};
+use crate::frame::is_no_largest_frame;
+use crate::order::{refuse_first, Line};
+use crate::refusal::Refusal;
 use crate::slips::{slipped, Slip};
 use crate::units::{BitTimes, OctetTimes, Quanta};
 
 /// Octets that a frame holds the wire for besides its own: preamble, start and gap.
-const WIRE_OVERHEAD: u64 = 20;
+const WIRE_OVERHEAD: OctetTimes = OctetTimes(20);
 
 /// The wire time of a PFC frame: 60 octets, 4 of FCS, 20 around them.
 pub const PFC_WIRE_TIME: OctetTimes = OctetTimes(84);
@@ -27,7 +28,7 @@ const HALT_LIMITS: [(u64, Quanta); 3] = [
 
 /// How long a frame of this length (octets with FCS) holds the wire.
 pub fn wire_time(length: u64) -> OctetTimes {
-    OctetTimes(length + WIRE_OVERHEAD)
+    OctetTimes(length) + WIRE_OVERHEAD
 }
 
 /// The inputs of the headroom sum.
@@ -97,20 +98,35 @@ pub struct Headroom {
 
 /// The headroom sum, in bits and in octet times.
 pub fn calculate(inputs: &Inputs) -> Result<Headroom, Refusal> {
-    let halt_limit = halt_limit(inputs.rate).ok_or(Refusal::Rate)?;
-    refuse_if(inputs.metres > LONGEST_LINK_METRES, Refusal::Metres)?;
-    refuse_if(
-        !(40..=100).contains(&inputs.percentage),
-        Refusal::Percentage,
-    )?;
-    try_largest_frame(inputs.largest_frame)?;
-    for delay in station_delays(inputs) {
-        try_delay(delay)?;
-    }
+    let halt_limit = halt_limit(inputs.rate);
     let link = link_bits(inputs.metres, inputs.rate, inputs.percentage);
-    let request_path = try_path([inputs.b_transmit, link, inputs.a_receive, inputs.halt])?;
-    let data_path = try_path([inputs.a_transmit, link, inputs.b_receive])?;
-    refuse_if(inputs.halt > halt_limit, Refusal::HaltTooLong)?;
+    let request_path = inputs.b_transmit + link + inputs.a_receive + inputs.halt;
+    let data_path = inputs.a_transmit + link + inputs.b_receive;
+    refuse_first!(
+        Line::Headroom,
+        [
+            (Refusal::Rate, halt_limit.is_none()),
+            (Refusal::Metres, inputs.metres > LONGEST_LINK_METRES),
+            (
+                Refusal::Percentage,
+                !(40..=100).contains(&inputs.percentage)
+            ),
+            (
+                Refusal::LargestFrame,
+                is_no_largest_frame(inputs.largest_frame)
+            ),
+            (
+                Refusal::DelayTooLong,
+                station_delays(inputs).into_iter().any(is_delay_too_long)
+                    || is_path_too_long(request_path)
+                    || is_path_too_long(data_path)
+            ),
+            (
+                Refusal::HaltTooLong,
+                halt_limit.is_some_and(|limit| inputs.halt > limit)
+            ),
+        ],
+    )?;
     Ok(sum(inputs, link, request_path, data_path))
 }
 
@@ -164,27 +180,24 @@ fn station_delays(inputs: &Inputs) -> [BitTimes; 6] {
     ]
 }
 
-/// Refusal 14 for a generation or station delay.
-pub fn try_delay(delay: BitTimes) -> Result<(), Refusal> {
-    refuse_if(delay > LONGEST_DELAY, Refusal::DelayTooLong)
+/// The condition of refusal 14 for a generation or station delay.
+pub fn is_delay_too_long(delay: BitTimes) -> bool {
+    delay > LONGEST_DELAY
 }
 
-/// Refusal 14 for a path given whole.
-pub fn try_path_bits(path: BitTimes) -> Result<(), Refusal> {
-    refuse_if(path > LONGEST_PATH, Refusal::DelayTooLong)
+/// The condition of refusal 14 for a path.
+pub fn is_path_too_long(path: BitTimes) -> bool {
+    path > LONGEST_PATH
 }
 
-/// A path's sum; one too wide for the type is above the limit as well.
-fn try_path<const N: usize>(parts: [BitTimes; N]) -> Result<BitTimes, Refusal> {
-    let path = BitTimes::checked_sum(parts).ok_or(Refusal::DelayTooLong)?;
-    try_path_bits(path)?;
-    Ok(path)
-}
-
-/// Bits in flight on the cable, rounded up.
+/// Bits in flight on the cable, rounded up. Of inputs that 10, 11 and 12 refuse the number decides
+/// nothing but whether 14 holds as well: none is wrapped, and a signal without speed has no bits.
 fn link_bits(metres: u64, rate: u64, percentage: u64) -> BitTimes {
-    let dividend = metres * rate * 100;
-    let divisor = percentage * LIGHT_METRES_PER_MICROSECOND;
+    if percentage == 0 {
+        return BitTimes(0);
+    }
+    let dividend = metres.saturating_mul(rate).saturating_mul(100);
+    let divisor = percentage.saturating_mul(LIGHT_METRES_PER_MICROSECOND);
     if slipped(Slip::LinkBitsRoundedDown) {
         return BitTimes(dividend / divisor);
     }

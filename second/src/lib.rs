@@ -9,6 +9,7 @@ pub mod head;
 pub mod headroom;
 pub mod hex;
 pub mod octets;
+pub mod order;
 pub mod recorder;
 pub mod refusal;
 pub mod settings;

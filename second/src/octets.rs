@@ -12,6 +12,11 @@ impl<'a> Octets<'a> {
         Octets { rest: row }
     }
 
+    /// How many octets are left.
+    pub fn count(&self) -> usize {
+        self.rest.len()
+    }
+
     pub fn take(&mut self, count: usize) -> Option<&'a [u8]> {
         let (taken, rest) = self.rest.split_at_checked(count)?;
         self.rest = rest;

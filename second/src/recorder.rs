@@ -2,7 +2,8 @@
 
 use crate::frame::{Request, PFC_FRAME_OCTETS};
 use crate::headroom::Delays;
-use crate::refusal::{refuse_if, Refusal};
+use crate::order::{refuse_first, Line};
+use crate::refusal::Refusal;
 use crate::settings::Settings;
 use crate::slips::{slipped, Slip};
 use crate::units::OctetTimes;
@@ -101,8 +102,9 @@ impl Recorder {
         }
     }
 
+    /// A priority above 7 is not.
     pub fn is_enabled(&self, priority: usize) -> bool {
-        bit(self.enabled, priority)
+        priority < PRIORITIES && bit(self.enabled, priority)
     }
 
     pub fn room(&self, priority: usize) -> &Room {
@@ -139,15 +141,26 @@ impl Recorder {
 
     /// The disk takes octets of this priority.
     pub fn take(&mut self, priority: usize, octets: u64, now: OctetTimes) -> Result<(), Refusal> {
-        refuse_if(!self.is_enabled(priority), Refusal::NotEnabled)?;
-        let room = &mut self.rooms[priority];
-        refuse_if(octets > room.held, Refusal::MoreThanHeld)?;
-        room.held -= octets;
+        refuse_first!(
+            Line::Kind07,
+            [
+                (Refusal::PriorityAbove7, priority > 7),
+                (Refusal::NotEnabled, !self.is_enabled(priority)),
+                (Refusal::MoreThanHeld, octets > self.held(priority)),
+            ],
+        )?;
+        self.rooms[priority].held -= octets;
         self.watch(priority, now);
         Ok(())
     }
 
+    /// Of a priority above 7 nothing is held.
+    fn held(&self, priority: usize) -> u64 {
+        self.rooms.get(priority).map_or(0, |room| room.held)
+    }
+
     /// Sets the wanted mark after an arrival or a taking; a change makes PFC due.
+    #[inline]
     fn watch(&mut self, priority: usize, now: OctetTimes) {
         let free = self.rooms[priority].free();
         let room = &mut self.rooms[priority];

@@ -1,8 +1,9 @@
 //! The recorder's settings and their refusals.
 
-use crate::frame::try_largest_frame;
-use crate::headroom::{try_delay, try_path_bits, Delays};
-use crate::refusal::{refuse_if, Refusal};
+use crate::frame::is_no_largest_frame;
+use crate::headroom::{is_delay_too_long, is_path_too_long, Delays};
+use crate::order::{refuse_first, Line};
+use crate::refusal::Refusal;
 use crate::slips::{slipped, Slip};
 use crate::units::{BitTimes, OctetTimes, Quanta};
 use crate::{bit, PRIORITIES};
@@ -31,25 +32,34 @@ pub struct Settings {
 }
 
 impl Settings {
-    /// Tries the settings in order 13, 14, 17, 18, 16, 15; the answer holds G, W, P and D.
+    /// Tries the settings; the answer holds G, W, P and D.
     pub fn accept(&self) -> Result<Delays, Refusal> {
-        try_largest_frame(self.largest_frame)?;
-        try_delay(self.generation)?;
-        try_path_bits(self.request_path)?;
-        try_path_bits(self.data_path)?;
-        self.try_refresh()?;
-        self.try_largest_rooms()?;
         let delays = Delays::new(
             self.largest_frame,
             self.generation,
             self.request_path,
             self.data_path,
         );
-        if slipped(Slip::RoomsBeforePauseTime) {
-            self.try_smallest_rooms(&delays)?;
-        }
-        self.try_pause_time(&delays)?;
-        self.try_smallest_rooms(&delays)?;
+        refuse_first!(
+            Line::Settings,
+            [
+                (
+                    Refusal::LargestFrame,
+                    is_no_largest_frame(self.largest_frame)
+                ),
+                (Refusal::DelayTooLong, self.has_delay_too_long()),
+                (
+                    Refusal::Refresh,
+                    !(OctetTimes(1)..=LONGEST_REFRESH).contains(&self.refresh)
+                ),
+                (Refusal::RoomTooLarge, self.has_room_too_large()),
+                (
+                    Refusal::PauseTimeTooShort,
+                    self.is_pause_time_too_short(&delays)
+                ),
+                (Refusal::RoomTooSmall, self.has_room_too_small(&delays)),
+            ],
+        )?;
         Ok(delays)
     }
 
@@ -57,32 +67,29 @@ impl Settings {
     ///
     /// The extra M is for the frame that crosses the mark.
     pub fn wanted_below(&self, delays: &Delays) -> u64 {
-        delays.headroom().octets_carried() + self.largest_frame
+        let headroom = delays.headroom().octets_carried();
+        headroom.saturating_add(self.largest_frame)
     }
 
     /// The free room from which on pause is no longer wanted: headroom + M + hysteresis.
     pub fn unwanted_from(&self, delays: &Delays) -> u64 {
-        self.wanted_below(delays) + self.hysteresis
+        self.wanted_below(delays).saturating_add(self.hysteresis)
     }
 
-    fn try_refresh(&self) -> Result<(), Refusal> {
-        refuse_if(
-            !(OctetTimes(1)..=LONGEST_REFRESH).contains(&self.refresh),
-            Refusal::Refresh,
-        )
+    fn has_delay_too_long(&self) -> bool {
+        is_delay_too_long(self.generation)
+            || is_path_too_long(self.request_path)
+            || is_path_too_long(self.data_path)
     }
 
-    fn try_largest_rooms(&self) -> Result<(), Refusal> {
+    fn has_room_too_large(&self) -> bool {
         let room_too_large = (0..PRIORITIES)
             .filter(|&n| bit(self.enabled, n) || slipped(Slip::NotEnabledRoomsTried))
             .any(|n| self.rooms[n] > LARGEST_ROOM);
-        refuse_if(
-            room_too_large || self.hysteresis > LARGEST_ROOM,
-            Refusal::RoomTooLarge,
-        )
+        room_too_large || self.hysteresis > LARGEST_ROOM
     }
 
-    fn try_pause_time(&self, delays: &Delays) -> Result<(), Refusal> {
+    fn is_pause_time_too_short(&self, delays: &Delays) -> bool {
         // The first quantum may end at once, so one quantum more is asked for.
         let first_quantum = if slipped(Slip::FirstQuantumWhole) {
             Quanta(0)
@@ -90,17 +97,13 @@ impl Settings {
             Quanta(1)
         };
         let pause = Quanta(self.pause_time.into()).as_octet_times();
-        refuse_if(
-            pause < self.refresh + delays.one_way() + first_quantum.as_octet_times(),
-            Refusal::PauseTimeTooShort,
-        )
+        pause < self.refresh + delays.one_way() + first_quantum.as_octet_times()
     }
 
-    fn try_smallest_rooms(&self, delays: &Delays) -> Result<(), Refusal> {
+    fn has_room_too_small(&self, delays: &Delays) -> bool {
         let needed = self.unwanted_from(delays);
-        let room_too_small = (0..PRIORITIES)
+        (0..PRIORITIES)
             .filter(|&n| bit(self.enabled, n))
-            .any(|n| self.rooms[n] < needed);
-        refuse_if(room_too_small, Refusal::RoomTooSmall)
+            .any(|n| self.rooms[n] < needed)
     }
 }

@@ -4,20 +4,28 @@
 
 use std::cell::Cell;
 
+use crate::order::{self, all_pairs, while_watched, Pair};
+
 /// One rule broken. The text beside each is what `compare --self-test` prints.
 macro_rules! slips {
     ($($name:ident: $text:literal,)*) => {
         #[derive(Clone, Copy, Debug, PartialEq, Eq)]
         pub enum Slip {
             $(#[doc = $text] $name,)*
+            /// The later of a pair is given; of neighbours in a line, the later is tried first.
+            OutOfOrder(Pair),
         }
 
-        pub const ALL_SLIPS: &[Slip] = &[$(Slip::$name,)*];
+        const SINGLE_SLIPS: &[Slip] = &[$(Slip::$name,)*];
 
         impl Slip {
-            pub fn text(self) -> &'static str {
+            pub fn text(self) -> String {
                 match self {
-                    $(Slip::$name => $text,)*
+                    $(Slip::$name => $text.to_string(),)*
+                    Slip::OutOfOrder(pair) => {
+                        let given = order::text(pair.later);
+                        format!("{} gives {given} where {pair} hold", pair.line.text())
+                    }
                 }
             }
         }
@@ -28,7 +36,6 @@ slips! {
     TimesFromOtherEnd: "time[n] is read from the wrong end",
     FirstEnableOctetRead: "the first octet of the enable vector is not ignored",
     FrameUpToM: "refusal 2 only above M",
-    AddressBeforeType: "a data frame for another address gives 3",
     PadLeftAsFound: "building leaves octets 34 to 59 as found",
     OctetAfterFrameTouched: "building touches octet 60",
     UnsetTimersZeroed: "timers whose e[n] is 0 are zeroed",
@@ -36,12 +43,10 @@ slips! {
     EnableSettingIgnored: "timers of priorities not enabled are set too",
     IndicationsSaturate: "the count of indications stops at its end",
     PausedHeadStopsChoice: "a paused head holds back the lower classes too",
-    HeadsBeforeMap: "choice tries 20 before 22",
     LinkBitsRoundedDown: "link bits are rounded down",
     HaltAsStationDelay: "14 tries the halt delay as a station delay",
     RoundedTogether: "G, P and D are rounded as one sum",
     FirstQuantumWhole: "refusal 16 without the extra 64",
-    RoomsBeforePauseTime: "15 is tried before 16",
     NotEnabledRoomsTried: "18 tries rooms of priorities not enabled",
     MarkAtHeadroom: "the mark stands at exactly the headroom",
     ReleaseAboveOnly: "wanted ends only above the hysteresis, not at it",
@@ -65,10 +70,13 @@ slips! {
     Only127UnderWay: "each direction holds 127 frames",
     QuantaByWait: "quanta are counted from the start of each wait",
     CutSettingsGive31: "later settings cut short give 31",
-    BusyBeforeLength: "kind 02 tries 34 before 33",
-    BusyBeforeNotDue: "kind 05 tries 34 before 39",
-    CrowdBeforePause: "kind 02 tries 36 before 35",
     WaitOfZeroNotCounted: "a wait of 0 is not counted as a step",
+}
+
+/// Every slip: the rules above one by one, then each pair of each order line.
+pub fn all_slips() -> Vec<Slip> {
+    let pairs = all_pairs().into_iter().map(Slip::OutOfOrder);
+    SINGLE_SLIPS.iter().copied().chain(pairs).collect()
 }
 
 thread_local! {
@@ -92,5 +100,5 @@ pub fn with_slip<T>(slip: Slip, work: impl FnOnce() -> T) -> T {
     }
     let _mend = Mend;
     SLIP.set(Some(slip));
-    work()
+    while_watched(work)
 }

@@ -22,14 +22,6 @@ impl BitTimes {
     pub const fn rounded_up_to_octet_times(self) -> OctetTimes {
         OctetTimes(self.0.div_ceil(BITS_PER_OCTET))
     }
-
-    /// The sum, or nothing where it is wider than the type.
-    pub fn checked_sum<const N: usize>(parts: [BitTimes; N]) -> Option<BitTimes> {
-        parts
-            .iter()
-            .try_fold(0u64, |sum, part| sum.checked_add(part.0))
-            .map(BitTimes)
-    }
 }
 
 impl OctetTimes {
@@ -58,16 +50,18 @@ impl Quanta {
     }
 }
 
+// A sum wider than the type stays at its end, past every limit, and is never wrapped.
+
 impl Add for BitTimes {
     type Output = BitTimes;
     fn add(self, other: BitTimes) -> BitTimes {
-        BitTimes(self.0 + other.0)
+        BitTimes(self.0.saturating_add(other.0))
     }
 }
 
 impl Add for OctetTimes {
     type Output = OctetTimes;
     fn add(self, other: OctetTimes) -> OctetTimes {
-        OctetTimes(self.0 + other.0)
+        OctetTimes(self.0.saturating_add(other.0))
     }
 }

@@ -73,5 +73,5 @@ pub(crate) fn tell(refusal: u8, at: u64, input: &[u8]) {
     let line = page::number(page::put(line, b" at "), at);
     let line = before_steps(page::put(line, b": "), refusal, at, input);
     let line = of_steps(line, refusal);
-    console::output::remark(page::put(line, b"\n"));
+    remarks::remark(page::put(line, b"\n"));
 }

@@ -1,11 +1,13 @@
 -- Document 01, "The bench": a run over a whole input. "The bench program reads records on standard input, at most 65,536 octets, stops
 -- at the first refusal and prints."
 use Prim.Native.Nat.{ℕ, zero, suc, _+_, _*_}
+use mathlib.Core.Bool.{Bool, true, not}
 use mathlib.Core.List.{List, [], _∷_}
 use lib.ListN.{length, drop}
 use lib.Dec.{ltb, eqb}
 use Rattle.ground.specs.Pick.{pick}
 use Rattle.ground.specs.Eight.{eight}
+use Rattle.ground.specs.First.{Refusal, _gives_, firstOf}
 use Rattle.octets.specs.Numbers.{octetAt, wordAt, longAt}
 use Rattle.room_to_keep.specs.declared.Kept.{Kept}
 use Rattle.settings.specs.Settings.{settling}
@@ -68,10 +70,17 @@ runFrom (suc fuel) w s steps (kind ∷ rest) =
 abbrev pub followOf : Watch → List ℕ → Report
 followOf w octets = runFrom (length octets) w (empty w) 0 octets
 
--- the first record must be settings: 44 "settings missing or repeated" where it is not, 31 "body cut short" under 58 octets, its kind and
--- 57 more
-unfoldable pub firstRefusal : ℕ → ℕ → ℕ
-firstRefusal kind size = pick (ltb size 1) 44 (pick (eqb kind 0) (pick (ltb size 58) 31 0) 44)
+-- the first record must be settings: there is none, or it is of another kind
+unfoldable pub isMissing : ℕ → ℕ → Bool
+isMissing kind size = pick (ltb size 1) true (not (eqb kind 0))
+
+-- "Records 45, 44, 30, 31" of a whole input by its first octet and its length: 45 "input too long", 44 "settings missing or repeated", 31
+-- "body cut short" under 58 octets, the settings' kind and 57 more
+abbrev pub inputOrder : ℕ → ℕ → List Refusal
+inputOrder kind size = ltb 65536 size gives 45 ∷ isMissing kind size gives 44 ∷ ltb size 58 gives 31 ∷ []
+
+unfoldable pub inputRefusal : ℕ → ℕ → ℕ
+inputRefusal kind size = firstOf (inputOrder kind size)
 
 -- the watch of accepted settings
 abbrev pub watchWith : Settings → Kept → Watch
@@ -86,10 +95,9 @@ settledBy (Accepted room) input = followOf (watchWith (settingsIn input) room) (
 abbrev pub settledOf : List ℕ → Report
 settledOf input = settledBy (settling (settingsIn input)) input
 
--- 45 "input too long", before everything
+-- a run: the input is refused, or its settings are tried
 unfoldable pub runOf : List ℕ → Report
 runOf input =
-    pick (ltb 65536 (length input)) (refusedReport 45)
-    (pick (eqb (firstRefusal (octetAt input 0) (length input)) 0)
+    pick (eqb (inputRefusal (octetAt input 0) (length input)) 0)
     (settledOf input)
-    (refusedReport (firstRefusal (octetAt input 0) (length input))))
+    (refusedReport (inputRefusal (octetAt input 0) (length input)))

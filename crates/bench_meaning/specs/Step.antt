@@ -16,9 +16,10 @@ use Rattle.frame.specs.declared.Verdict.the-variants.{Data, Asks, Refused}
 use Rattle.head.specs.declared.Head.{Head}
 use Rattle.head.specs.Timers.{afterRequest, afterQuanta, isPaused}
 use Rattle.units.specs.Units.{wireTime, pfcTime}
-use Rattle.recorder.specs.declared.Marks.{Marks}
+use Rattle.marks.specs.declared.Marks.{Marks}
 use Rattle.recorder.specs.declared.Watch.{Watch}
-use Rattle.recorder.specs.Watching.{Recorder, recorderOf, arrivedAt, takingRefusal, takenAt, refreshOf, startedAt, withDue, timesFor}
+use Rattle.marks.specs.Marks.{refreshOf, startedAt, withDue, timesFor}
+use Rattle.recorder.specs.Watching.{Recorder, recorderOf, arrivedAt, takingRefusal, takenAt}
 use Rattle.records.specs.declared.Record.{Record}
 use Rattle.records.specs.declared.Record.the-variants as record'
 use Rattle.decisions.specs.Chains.{lengthOutside, waitNumber, startDataNumber, arriveNumber, startOtherNumber, startPfcNumber}

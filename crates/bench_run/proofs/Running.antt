@@ -1,163 +1,22 @@
--- A run's loop: the memory after an accepted record holds the next state, and what is left, run from there, gives the answer. Assumes
--- nothing.
-use Prim.Native.Nat.{ℕ, zero, suc, _+_, _-_, _<_, _≤_}
+-- The settings of a run: whole or not, accepted or refused, and what that says of the report. Assumes nothing.
+use Prim.Native.Nat.{ℕ, _≤_}
 use mathlib.Core.Path.{_≡_, refl, sym, ap, _∙_}
-use mathlib.Core.Bool.{Bool, true, false}
-use mathlib.Core.List.{List, [], _∷_}
+use mathlib.Core.List.{List}
 use native.Mathlib.Omega.{arith}
-use native.Mathlib.Nat.{add-zero, add-assoc}
 use lib.Dec.{ltb, eqb}
-use lib.ListN.{length, getD, take, drop, length-drop}
-use lib.Seq.{drop-drop, getD-drop}
-use borrow.Author.Tests.{eq-eqb, ne-eqb, ltb-false, eqb-true, eqb-false}
+use lib.ListN.{length, drop}
+use borrow.Author.Tests.{ltb-false, eq-eqb, ne-eqb}
+use Rattle.ground.specs.First.{GivenExactly, areApart, isAmong, testAt}
 use Rattle.ground.specs.Pick.{pick}
-use Rattle.ground.specs.Eight.{eight}
-use Rattle.ground.proofs.Parts.{take-rest}
+use Rattle.ground.proofs.First.{first-given}
 use Rattle.ground.proofs.Pick.{pick-yes, pick-no}
 use Rattle.octets.specs.Numbers.{octetAt}
 use Rattle.room_to_keep.specs.declared.Kept.{Kept}
-use Rattle.rooms.specs.Room.{emptyRoom, numbersOf}
 use Rattle.settings.specs.Settings.{settling}
 use Rattle.settings.specs.declared.Settling.{Settling}
 use Rattle.settings.specs.declared.Settling.the-variants as Settled
-use Rattle.recorder.specs.Watching.{recorderOf}
-use Rattle.recorder.specs.declared.Watch.{Watch}
-use Rattle.records.specs.Records.{bodyLength, recordLength, decoded}
-use Rattle.rows.specs.Rows.{heldIn, seen}
-use Rattle.bench_meaning.specs.State.{State, empty, idle}
-use Rattle.bench_meaning.specs.Step.{refusalOf, nextOf}
-use Rattle.bench_meaning.specs.Run.{reportOf, runFrom, followOf, settingsIn, refusedReport, watchWith, settledBy, settledOf, firstRefusal}
 use Rattle.bench_meaning.specs.declared.Report.{Report}
-use Rattle.bench_steps.specs.Memory.{Memory, memoryOf, viewOf, holding, fitting, Lent}
-use Rattle.bench_steps.specs.Answers.{memoryFor, stepNumber, stepMemory}
-use Rattle.bench_steps.specs.declared.state.Bench.{Bench}
-use Rattle.bench_steps.proofs.Stepping.{number-is, step-view}
-use Rattle.bench_run.specs.Running.{outcomeOf, emptyBench}
-use Rattle.bench_run.specs.declared.Outcome.the-variants as outcome
-
--- the run from a state on: one record more, the last one, and none left
-run-on : (fuel : ℕ) (w : Watch) (s : State) (steps : ℕ) (octets : List ℕ) → 1 ≤ length octets → refusalOf w s (decoded octets) ≡ 0 →
-    runFrom (suc fuel) w s steps octets ≡ runFrom fuel w (nextOf w s (decoded octets)) (steps + 1) (drop (recordLength (octetAt octets 0)) octets)
-unfolding runFrom
-run-on fuel w s steps [] some accepted = absurd (omega arith)
-run-on fuel w s steps (kind ∷ rest) some accepted = pick-yes _ _ (eq-eqb (refusalOf w s (decoded (kind ∷ rest))) 0 accepted)
-
-run-stops : (fuel : ℕ) (w : Watch) (s : State) (steps : ℕ) (octets : List ℕ) → 1 ≤ length octets → (refusalOf w s (decoded octets) ≡ 0 → ⊥) →
-    runFrom (suc fuel) w s steps octets ≡ reportOf (w .settings .enabled) s steps (refusalOf w s (decoded octets)) (steps + 1)
-unfolding runFrom
-run-stops fuel w s steps [] some refused = absurd (omega arith)
-run-stops fuel w s steps (kind ∷ rest) some refused = pick-no _ _ (ne-eqb (refusalOf w s (decoded (kind ∷ rest))) 0 refused)
-
-run-ends : (fuel : ℕ) (w : Watch) (s : State) (steps : ℕ) (octets : List ℕ) → length octets ≡ 0 →
-    runFrom fuel w s steps octets ≡ reportOf (w .settings .enabled) s steps 0 0
-unfolding runFrom
-run-ends zero w s steps octets none = refl
-run-ends (suc fuel) w s steps [] none = refl
-run-ends (suc fuel) w s steps (kind ∷ rest) none = absurd (omega arith)
-
--- a refused record leaves the memory as it was
-stayed : (w : Watch) (m : Memory) (octets : List ℕ) → (refusalOf w (viewOf m) (decoded octets) ≡ 0 → ⊥) → stepMemory w m octets ≡ m
-unfolding stepMemory memoryFor pick
-stayed w m octets refused = go (fitting m)
-  where
-    go : (b : Bool) → pick b (memoryFor w m (decoded octets)) m ≡ m
-    go true = pick-no _ _ (ne-eqb (refusalOf w (viewOf m) (decoded octets)) 0 refused)
-    go false = refl
-
--- the loop of a run, at a place of the octets
-module _ (w : Watch) (octets : List ℕ) where
-  -- the report of a memory whose rooms hold these numbers: the frames under way are not in it
-  abbrev pub Told : Memory → List (List ℕ) → ℕ → ℕ → ℕ → Report
-  Told m rooms steps number at =
-      reportOf (w .settings .enabled)
-      (record { clock = m .clock; head = m .head; recorder = recorderOf rooms (m .marks); toB = idle; toA = idle })
-      steps number at
-
-  told-is : (m : Memory) (steps number at : ℕ) → Told m (m .rooms) steps number at ≡ reportOf (w .settings .enabled) (viewOf m) steps number at
-  unfolding viewOf
-  told-is m steps number at = refl
-
-  -- what is left, run from where a memory stands, gives the answer
-  abbrev pub Ran : ℕ → ℕ → Memory → Type 0
-  Ran at steps m = followOf w octets ≡ runFrom (length octets - steps) w (viewOf m) steps (drop at octets)
-
-  pub starts : (bench : Bench) (rooms : List (List ℕ)) (e s p o : List ℕ) → bench ≡ emptyBench (w .settings .enabled) →
-      rooms ≡ eight (λ n. numbersOf emptyRoom) → Ran 0 0 (memoryOf bench rooms e s p o)
-  unfolding viewOf seen heldIn
-  starts bench rooms e s p o is empty-rooms =
-      let all : length octets ≡ length octets - 0 = omega arith in
-      ap (λ (n : ℕ). runFrom n w (empty w) 0 octets) all ∙
-      ap (λ (b : Bench). runFrom (length octets - 0) w (viewOf (memoryOf b (eight (λ n. numbersOf emptyRoom)) e s p o)) 0 octets) (sym is) ∙
-      ap (λ (r : List (List ℕ)). runFrom (length octets - 0) w (viewOf (memoryOf bench r e s p o)) 0 octets) (sym empty-rooms)
-
-  module _ (at steps : ℕ) (m : Memory) (lent : Lent m) (ran : Ran at steps m) (behind : steps ≤ at) where
-    -- no octets are left
-    pub ended : (said : Report) → length octets ≤ at → said ≡ Told m (m .rooms) steps 0 0 → said ≡ followOf w octets
-    ended said past is =
-        is ∙ told-is m steps 0 0 ∙ sym (ran ∙ run-ends (length octets - steps) w (viewOf m) steps (drop at octets) (omega (arith, length-drop at octets)))
-
-    module _ (number : ℕ) (before : at < length octets) (is-number : number ≡ stepNumber w m (take (length octets - at) (drop at octets))) where
-      number-here : number ≡ refusalOf w (viewOf m) (decoded (drop at octets))
-      number-here =
-          is-number ∙ number-is m lent w _ ∙ ap (λ (o : List ℕ). refusalOf w (viewOf m) (decoded o)) (take-rest at octets)
-
-      fuel : length octets - steps ≡ suc (length octets - (steps + 1))
-      fuel = omega arith
-
-      some-left : 1 ≤ length (drop at octets)
-      some-left = omega (arith, length-drop at octets)
-
-      -- the record is refused: the rooms are as they were
-      pub stopped : (said : Report) (then : Memory) → (number ≡ 0 → ⊥) → then ≡ stepMemory w m (take (length octets - at) (drop at octets)) →
-          said ≡ Told m (then .rooms) steps number (steps + 1) → said ≡ followOf w octets
-      stopped said then refused is-then is =
-          let same : then ≡ m =
-          is-then ∙ ap (stepMemory w m) (take-rest at octets) ∙ stayed w m (drop at octets) (λ e. refused (number-here ∙ e)) in
-          is ∙
-          ap (λ (x : Memory). Told m (x .rooms) steps number (steps + 1)) same ∙
-          told-is m steps number (steps + 1) ∙
-          ap (λ (k : ℕ). reportOf (w .settings .enabled) (viewOf m) steps k (steps + 1)) number-here ∙
-          sym
-          (ran ∙
-          ap (λ (k : ℕ). runFrom k w (viewOf m) steps (drop at octets)) fuel ∙
-          run-stops (length octets - (steps + 1)) w (viewOf m) steps (drop at octets) some-left (λ e. refused (number-here ∙ e)))
-
-      -- it is accepted
-      pub went-on : (then : Memory) (kind body : ℕ) → number ≡ 0 → then ≡ stepMemory w m (take (length octets - at) (drop at octets)) →
-          kind ≡ octetAt octets at → body ≡ bodyLength kind → Ran (at + 1 + body) (steps + 1) then
-      went-on then kind body zero-number is-then is-kind is-body =
-          let here = take-rest at octets in
-          let next : viewOf then ≡ nextOf w (viewOf m) (decoded (drop at octets)) =
-          ap viewOf (is-then ∙ ap (stepMemory w m) here) ∙ step-view m lent w (drop at octets) (sym number-here ∙ zero-number) in
-          let first : octetAt (drop at octets) 0 ≡ kind =
-          getD-drop at octets 0 0 ∙ ap (λ (k : ℕ). getD octets k 0) (add-zero at) ∙ sym is-kind in
-          let moved : drop (recordLength (octetAt (drop at octets) 0)) (drop at octets) ≡ drop (at + 1 + body) octets =
-          ap (λ (k : ℕ). drop (recordLength k) (drop at octets)) first ∙
-          ap (λ (k : ℕ). drop (1 + k) (drop at octets)) (sym is-body) ∙
-          drop-drop (1 + body) at octets ∙
-          ap (λ (k : ℕ). drop k octets) (sym (add-assoc at 1 body)) in
-          ran ∙
-          ap (λ (k : ℕ). runFrom k w (viewOf m) steps (drop at octets)) fuel ∙
-          run-on (length octets - (steps + 1)) w (viewOf m) steps (drop at octets) some-left (sym number-here ∙ zero-number) ∙
-          ap (λ (l : List ℕ). runFrom (length octets - (steps + 1)) w (nextOf w (viewOf m) (decoded (drop at octets))) (steps + 1) l) moved ∙
-          ap (λ (s : State). runFrom (length octets - (steps + 1)) w s (steps + 1) (drop (at + 1 + body) octets)) (sym next)
-
--- what an outcome says of the number
-pub accepted-zero : (number : ℕ) → outcomeOf number ≡ outcome.Accepted → number ≡ 0
-unfolding outcomeOf pick
-accepted-zero number = go (eqb number 0) refl
-  where
-    go : (b : Bool) → eqb number 0 ≡ b → pick b outcome.Accepted (outcome.Refused number) ≡ outcome.Accepted → number ≡ 0
-    go true is e = eqb-true number 0 is
-    go false is e = let z : _≡_ {A = ℕ} 0 1 = cc in omega arith
-
-pub refused-nonzero : (number said : ℕ) → outcomeOf number ≡ outcome.Refused said → number ≡ 0 → ⊥
-unfolding outcomeOf pick
-refused-nonzero number said = go (eqb number 0) refl
-  where
-    go : (b : Bool) → eqb number 0 ≡ b → pick b outcome.Accepted (outcome.Refused number) ≡ outcome.Refused said → number ≡ 0 → ⊥
-    go true is e zero-number = let z : _≡_ {A = ℕ} 0 1 = cc in omega arith
-    go false is e zero-number = eqb-false number 0 is zero-number
+use Rattle.bench_meaning.specs.Run.{followOf, settingsIn, refusedReport, watchWith, settledBy, settledOf, inputOrder, inputRefusal, runOf}
 
 -- settings that are whole: what settling them says of the report
 pub settled-refused : (input : List ℕ) (number : ℕ) → settling (settingsIn input) ≡ Settled.Refused number → refusedReport number ≡ settledOf input
@@ -169,13 +28,25 @@ pub settled-accepted : (input : List ℕ) (room : Kept) → settling (settingsIn
 unfolding settledBy
 settled-accepted input room is = sym (ap (λ (x : Settling). settledBy x input) is)
 
--- neither 44 nor 31: the settings are whole
-pub whole-settings : (kind size : ℕ) → firstRefusal kind size ≡ 0 → 58 ≤ size
-unfolding firstRefusal pick
-whole-settings kind size = go (ltb size 1) (eqb kind 0) (ltb size 58) refl
-  where
-    go : (a b d : Bool) → ltb size 58 ≡ d → _≡_ {A = ℕ} (pick a 44 (pick b (pick d 31 0) 44)) 0 → 58 ≤ size
-    go true b d is e = omega arith
-    go false true true is e = omega arith
-    go false true false is e = ltb-false size 58 is
-    go false false d is e = omega arith
+-- none of 45, 44 and 31: the settings are whole
+pub whole-settings : (kind size : ℕ) → inputRefusal kind size ≡ 0 → 58 ≤ size
+unfolding inputRefusal areApart isAmong pick testAt
+whole-settings kind size none =
+    ltb-false size 58 (first-given (inputOrder kind size) refl .none-only none 2 (omega arith))
+
+-- "Records 45, 44, 30, 31 ..", of a whole input: "Each is given exactly when its condition holds and none earlier in the order does"
+pub input-given : (kind size : ℕ) → GivenExactly (inputOrder kind size) (inputRefusal kind size)
+unfolding inputRefusal areApart isAmong pick
+input-given kind size = first-given (inputOrder kind size) refl
+
+-- what a run answers by the input's refusal
+pub run-refused : (input : List ℕ) (number : ℕ) {said : Report} → number ≡ inputRefusal (octetAt input 0) (length input) → (number ≡ 0 → ⊥) →
+    said ≡ refusedReport number → said ≡ runOf input
+unfolding runOf
+run-refused input number is some told =
+    told ∙ ap refusedReport is ∙ sym (pick-no _ _ (ap (λ (k : ℕ). eqb k 0) (sym is) ∙ ne-eqb number 0 some))
+
+pub run-settled : (input : List ℕ) (number : ℕ) {said : Report} → number ≡ inputRefusal (octetAt input 0) (length input) → number ≡ 0 →
+    said ≡ settledOf input → said ≡ runOf input
+unfolding runOf
+run-settled input number is none told = told ∙ sym (pick-yes _ _ (ap (λ (k : ℕ). eqb k 0) (sym is) ∙ eq-eqb number 0 none))

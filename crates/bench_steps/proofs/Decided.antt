@@ -9,8 +9,8 @@ use denote.Triple.Clauses.{AtExit}
 use denote.Ref.{now}
 use Rattle.rows.specs.Rows.{Lane}
 use Rattle.rows.specs.declared.Direction.{Direction}
-use Rattle.bench_steps.specs.Memory.{Memory}
-use Rattle.bench_steps.specs.declared.state.Bench.{Bench}
+use Rattle.bench_memory.specs.Memory.{Memory}
+use Rattle.bench_state.specs.declared.Bench.{Bench}
 use Rattle.bench_steps.proofs.step.step.Kinds as step-kinds
 use Rattle.bench_steps.proofs.step.step.Reads as step
 
@@ -28,16 +28,16 @@ benchOf m =
       «to_a» = directionOf (m .toA);
     }
 
--- of the number, of what goes by value, of the rooms' numbers and of the four arrays at exit
+-- of the outcome, of what goes by value, of the rooms' numbers and of the four arrays at exit
 pub step-decides : (κs : Lfts 6) (args : Dens κs step-kinds.ps) (x y : resT step-kinds.r κs .Denot)
     (e f : AtExit (endedOf 6 step-kinds.ps step-kinds.r) κs) → step.Post κs args x e → step.Post κs args y f →
     (x ≡ y) × (now (e .1 .1 .0) ≡ now (f .1 .1 .0)) × (now (e .1 .1 .1 .0) ≡ now (f .1 .1 .1 .0)) ×
     (now (e .1 .1 .1 .1 .0) ≡ now (f .1 .1 .1 .1 .0)) × (now (e .1 .1 .1 .1 .1 .0) ≡ now (f .1 .1 .1 .1 .1 .0)) ×
     (now (e .1 .1 .1 .1 .1 .1 .0) ≡ now (f .1 .1 .1 .1 .1 .1 .0))
 step-decides κs args x y e f p q =
-    let number = p .0 ∙ sym (q .0) in
-    let whole = p .1 ∙ sym (q .1) in (
-      λ i. record { refusal = number i; bench = benchOf (whole i) },
+    let outcome = p .1 ∙ sym (q .1) in
+    let whole = p .2 ∙ sym (q .2) in (
+      λ i. record { outcome = outcome i; bench = benchOf (whole i) },
       ap (λ (m : Memory). m .rooms) whole,
       ap (λ (m : Memory). m .toB .ends) whole,
       ap (λ (m : Memory). m .toB .slots) whole,

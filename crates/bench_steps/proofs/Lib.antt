@@ -1,7 +1,2 @@
--- Laws of the steps.
-pub mod Answered
+-- Determinacy of the step.
 pub mod Decided
-pub mod Places
-pub mod Stepping
-pub mod Told
-pub mod WaitLaws

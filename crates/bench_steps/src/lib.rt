@@ -1,7 +1,3 @@
-// The bench of document 01, which joins both ends: one step for each record. It is built on the promises of the head, the recorder, the
-// frame and the rows of frames under way, and on nothing else of them.
-mod arriving;
-mod starting;
-pub mod state;
+// The bench of document 01, which joins both ends: one step for each record. It is built on the promises of the kinds' crates and on
+// nothing else of them.
 pub mod step;
-mod waiting;

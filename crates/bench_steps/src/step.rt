@@ -1,17 +1,14 @@
 // One record of the bench.
-use crate::arriving;
-use crate::starting;
-use crate::state;
-use crate::state::Bench;
-use crate::state::Stepped;
-use crate::waiting;
+use bench_state::Bench;
+use bench_state::Stepped;
 use recorder::Watch;
 use records::Record;
 ghost use mathlib.Core.Path.{_≡_};
 ghost use lib.ListN.{length};
 ghost use Rattle.records.specs.Records.{decoded};
-ghost use Rattle.bench_steps.specs.Memory.{memoryOf, Lent, fitsIn};
-ghost use Rattle.bench_steps.specs.Answers.{Answers, stepNumber, stepMemory};
+ghost use Rattle.bench_state.specs.Answered.{numberOf, outcomeOf};
+ghost use Rattle.bench_memory.specs.Memory.{memoryOf, Lent, fitsIn};
+ghost use Rattle.bench_memory.specs.Answers.{Answers, stepNumber, stepMemory};
 
 // Whether arrays of these sizes have the 128 places of a direction, its octets in slots of this width, and no more are under way.
 fn fits(count: u64, ends: usize, slots: usize, width: usize) -> bool
@@ -41,7 +38,7 @@ fn asked(
     ensures { λ r. ⌜ Answers watch
         (memoryOf bench (now (numbers .entry)) (now («data_ends» .entry)) (now («data_slots» .entry)) (now («pfc_ends» .entry))
         (now («pfc_slots» .entry)))
-        (decoded (now («record» .entry))) (r .refusal)
+        (decoded (now («record» .entry))) (r .outcome)
         (memoryOf (r .bench) (now (numbers .exit)) (now («data_ends» .exit)) (now («data_slots» .exit)) (now («pfc_ends» .exit))
         (now («pfc_slots» .exit))) ⌝ }
 {
@@ -53,12 +50,12 @@ fn asked(
         }
         Record::Arrive => arriving::arrive(watch, bench, numbers, data_ends, data_slots),
         Record::StartOther(length) => starting::start_other(watch, bench, length),
-        Record::StartPfc => starting::start_pfc(watch, bench, pfc_ends, pfc_slots),
-        Record::TakeEffect => arriving::take_effect(watch, bench, pfc_ends, pfc_slots),
+        Record::StartPfc => asking::start_pfc(watch, bench, pfc_ends, pfc_slots),
+        Record::TakeEffect => taking_effect::take_effect(watch, bench, pfc_ends, pfc_slots),
         Record::TakeOctets(priority, count) => {
             arriving::take_octets(watch, bench, numbers, priority, count)
         }
-        Record::Refused(number) => state::refused(number, bench),
+        Record::Refused(number) => bench_state::refused(number, bench),
     }
 }
 
@@ -75,10 +72,14 @@ pub fn step(
     pfc_slots: &mut [u8],
     record: &[u8],
 ) -> Stepped
-    ensures { λ r. ⌜ (r .refusal ≡ stepNumber watch
+    ensures { λ r. ⌜ (numberOf (r .outcome) ≡ stepNumber watch
         (memoryOf bench (now (numbers .entry)) (now («data_ends» .entry)) (now («data_slots» .entry)) (now («pfc_ends» .entry))
         (now («pfc_slots» .entry)))
         (now («record» .entry)))
+        × (r .outcome ≡ outcomeOf (stepNumber watch
+        (memoryOf bench (now (numbers .entry)) (now («data_ends» .entry)) (now («data_slots» .entry)) (now («pfc_ends» .entry))
+        (now («pfc_slots» .entry)))
+        (now («record» .entry))))
         × (memoryOf (r .bench) (now (numbers .exit)) (now («data_ends» .exit)) (now («data_slots» .exit)) (now («pfc_ends» .exit))
         (now («pfc_slots» .exit))
         ≡ stepMemory watch
@@ -89,10 +90,10 @@ pub fn step(
     let to_b = bench.to_b;
     let to_a = bench.to_a;
     if !fits(to_b.count, data_ends.len(), data_slots.len(), 3) {
-        return state::refused(36, bench);
+        return bench_state::refused(36, bench);
     }
     if !fits(to_a.count, pfc_ends.len(), pfc_slots.len(), 60) {
-        return state::refused(36, bench);
+        return bench_state::refused(36, bench);
     }
     asked(
         watch,

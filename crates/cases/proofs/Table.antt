@@ -2,36 +2,52 @@
 -- theorem, found by computing each row. A layer adds its rows in its own specs/Cases.antt. Assumes nothing.
 use mathlib.Core.Path.{_≡_, refl}
 use mathlib.Core.Bool.{Bool, true}
-use mathlib.Core.List.{List, _++_}
+use mathlib.Core.List.{List, [], _∷_, _++_}
+use Prim.Native.Nat.{ℕ}
+use lib.Dec.{eqb}
 use Rattle.ground.specs.Pick.{pick}
+use Rattle.ground.specs.First.{firstOf}
 use Rattle.ground.specs.Eight.{some}
 use Rattle.ground.specs.Table.{all, same}
 use Rattle.frame_build.specs.Cases.{frameCases, enabledIn, frameWithVector}
-use Rattle.frame.specs.Read.{verdict, wholeVerdict, controlVerdict, isAccepted, sizeRefusal}
+use Rattle.frame.specs.Read.{isAccepted, isControl, isElsewhere, isOther, isOutside, orderBy, taken, verdict, verdictBy}
 use Rattle.head.specs.Cases.{headCases}
-use Rattle.headroom_sum.specs.Cases.{headroomCases}
+use Rattle.headroom_sum.specs.Cases.{example004, itemOf, headroomCases}
 use Rattle.headroom_sum.specs.Link.{linkBits}
 use Rattle.headroom_sum.specs.Rates.{haltLimit}
-use Rattle.headroom_sum.specs.Sum.{sumRefusal, summed}
+use Rattle.headroom_sum.specs.Sum.{summed}
+use Rattle.headroom_sum.specs.declared.Items.{Items}
 use Rattle.interface_rows.specs.Cases.{rowCases}
 use Rattle.interface_rows.specs.Stack.{allKnown, stackBits, delaysOf, stackAnswer}
-use Rattle.room_to_keep.specs.Keep.{keepRefusal}
 use Rattle.moments.specs.Moments.{dueOn}
-use Rattle.settings.specs.Cases.{settingsCases}
-use Rattle.settings.specs.Settings.{isEnabled, someEnabled, numberOf, breaks, firstBroken}
+use Rattle.settings.specs.Cases.{settings004, settingsCases}
+use Rattle.settings.specs.Settings.{isEnabled, someEnabled}
 use Rattle.rooms.specs.Room.{heldAfter, droppedAfter, wantedAfter, spanAfter, spanKept, arrivedIn, takenFrom}
-use Rattle.recorder.specs.Cases.{recorderCases}
-use Rattle.recorder.specs.Watching.{limitsOf, differ, withMark, withRoom, arrivedWith, arrivedAt, refusalWith, takenWith, leavesWith, takingLeaves}
+use Rattle.recorder.specs.Cases.{watch004, recorderCases}
+use Rattle.marks.specs.Marks.{differ, withMark}
+use Rattle.recorder.specs.Watching.{limitsOf, withRoom, arrivedWith, arrivedAt, refusalWith, takenWith, leavesWith, takingLeaves}
+
+-- "with these": the settings' and the recorder's rows go by the paths and the room of the headroom's example, 49,588 and 43,444 bits
+abbrev ofExample : (Items → ℕ) → ℕ → Bool
+ofExample item = eqb (itemOf item (summed example004))
+
+unfoldable pub sameExample : List Bool
+sameExample =
+    ofExample (λ (i : Items). i .«request_path» .0) (settings004 132 56 17779 .«request_path» .0)
+    ∷ ofExample (λ (i : Items). i .«data_path» .0) (settings004 132 56 17779 .«data_path» .0)
+    ∷ ofExample (λ (i : Items). i .room .«one_way» .0) (watch004 .kept .«one_way» .0)
+    ∷ ofExample (λ (i : Items). i .room .headroom .0) (watch004 .kept .headroom .0)
+    ∷ []
 
 -- the frame's, the head's, Table N-1's, the headroom's, the settings' and the recorder's rows
 unfoldable pub documentCases : List Bool
-documentCases = frameCases ++ headCases ++ rowCases ++ headroomCases ++ settingsCases ++ recorderCases
+documentCases = frameCases ++ headCases ++ rowCases ++ headroomCases ++ sameExample ++ settingsCases ++ recorderCases
 
 pub every-case-holds : all documentCases ≡ true
-unfolding documentCases all same some pick frameCases rowCases headroomCases enabledIn frameWithVector
-    verdict wholeVerdict controlVerdict isAccepted sizeRefusal
-    linkBits haltLimit keepRefusal sumRefusal summed allKnown stackBits delaysOf stackAnswer
-    isEnabled someEnabled numberOf breaks firstBroken
+unfolding documentCases sameExample all same some pick frameCases rowCases headroomCases enabledIn frameWithVector
+    firstOf verdict verdictBy taken orderBy isOutside isControl isElsewhere isOther isAccepted
+    linkBits haltLimit summed allKnown stackBits delaysOf stackAnswer
+    isEnabled someEnabled
     heldAfter droppedAfter wantedAfter spanAfter spanKept arrivedIn takenFrom dueOn
     limitsOf differ withMark withRoom arrivedWith arrivedAt refusalWith takenWith leavesWith takingLeaves
 every-case-holds = refl

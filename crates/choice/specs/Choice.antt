@@ -2,11 +2,14 @@
 -- head of a queue is its front here; the head is the station.
 use Prim.Native.Nat.{ℕ, zero, suc}
 use mathlib.Core.Bool.{Bool, false, not, _&&_}
-use mathlib.Core.List.{List}
+use mathlib.Core.List.{List, [], _∷_}
 use lib.ListN.{getD}
 use lib.Dec.{eqb, ltb}
 use Rattle.ground.specs.Pick.{pick}
 use Rattle.ground.specs.Eight.{eight, some}
+use Rattle.ground.specs.First.{Refusal, _gives_, firstOf}
+use Rattle.head.specs.declared.Head.{Head}
+use Rattle.head.specs.Timers.{isPaused}
 use Rattle.choice.specs.declared.Choice.{Choice}
 use Rattle.choice.specs.declared.Choice.the-variants.{Class, Nothing, Refused}
 
@@ -28,13 +31,12 @@ someAbove limit entries = some (eight (λ n. ltb limit (getD entries n 0)))
 abbrev pub isMisplaced : List ℕ → List ℕ → ℕ → Bool
 isMisplaced fronts map c = isPresent fronts c && not (eqb (getD map (getD fronts c 0) 0) c)
 
--- "Order: .. Choice 22, 20, 21": "map entry above 7", "head above 8", "present head in a class its map doesn't give"
-unfoldable pub refusal : List ℕ → List ℕ → ℕ
-refusal fronts map =
-    pick (someAbove 7 map) 22
-    (pick (someAbove 8 fronts) 20
-    (pick (some (eight (isMisplaced fronts map))) 21
-    0))
+-- "Order: .. Choice 22, 20, 21": "map entry above 7", "head above 8", "present head in a class its map doesn't give", by their tests
+unfoldable pub orderBy : Bool → Bool → Bool → List Refusal
+orderBy wild high misplaced = wild gives 22 ∷ high gives 20 ∷ misplaced gives 21 ∷ []
+
+abbrev pub choosingOrder : List ℕ → List ℕ → List Refusal
+choosingOrder fronts map = orderBy (someAbove 7 map) (someAbove 8 fronts) (some (eight (isMisplaced fronts map)))
 
 -- "present and not paused", by the paused marks of the priorities
 abbrev pub mayGo : List ℕ → List Bool → ℕ → Bool
@@ -45,6 +47,14 @@ unfoldable pub highest : (ℕ → Bool) → ℕ → Choice
 highest test zero = Nothing
 highest test (suc c) = pick (test c) (Class c) (highest test c)
 
+-- the answer with a number: refused by it, or the highest of the eight where it is 0
+unfoldable pub chosenBy : ℕ → (ℕ → Bool) → Choice
+chosenBy number test = pick (eqb number 0) (highest test 8) (Refused number)
+
 -- "The answer is the highest class whose head is present and not paused, or none."
 unfoldable pub choice : List ℕ → List ℕ → List Bool → Choice
-choice fronts map paused = pick (eqb (refusal fronts map) 0) (highest (mayGo fronts paused) 8) (Refused (refusal fronts map))
+choice fronts map paused = chosenBy (firstOf (choosingOrder fronts map)) (mayGo fronts paused)
+
+-- the choice of a head by its own timers: "Priority n is paused exactly while its timer is above zero."
+abbrev pub choiceAt : Head → List ℕ → List ℕ → Choice
+choiceAt head fronts map = choice fronts map (eight (isPaused head))

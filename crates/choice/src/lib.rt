@@ -1,8 +1,10 @@
-// The choice at station A: which class queue sends next, by the priority at each queue's front and the paused marks.
+// The choice at station A: which class queue sends next, by the priority at each queue's front and what is paused.
+use head::Head;
 ghost use mathlib.Core.Path.{_≡_};
 ghost use Prim.Native.Nat.{_<_};
 ghost use Rattle.ground.specs.Eight.{eight, some};
-ghost use Rattle.choice.specs.Choice.{choice, highest, isMisplaced, mayGo, numberOf, refusal, someAbove};
+ghost use Rattle.ground.specs.First.{firstOf};
+ghost use Rattle.choice.specs.Choice.{choice, choiceAt, choosingOrder, highest, isMisplaced, mayGo, numberOf, orderBy, someAbove};
 
 // What choice answers: a class, or that none may send, or the number of a refusal.
 pub enum Choice {
@@ -14,26 +16,35 @@ pub enum Choice {
 // The highest class whose front is present and not paused, or none. fronts has the front of each class queue, a priority 0 to 7 or
 // 8 for an empty queue; map the class of each priority; paused the paused mark of each priority. Refused by number: 22, 20, 21.
 pub fn choose(fronts: [u8; 8], map: [u8; 8], paused: [bool; 8]) -> Choice
-    ensures { λ r. ⌜ (numberOf r ≡ refusal fronts map) × (r ≡ choice fronts map paused) ⌝ }
+    ensures { λ r. ⌜ (numberOf r ≡ firstOf (choosingOrder fronts map)) × (r ≡ choice fronts map paused) ⌝ }
 {
-    let number = refused(fronts, map);
+    let wild = some_above(map, 7);
+    let high = some_above(fronts, 8);
+    let number = refused(wild, high, some_misplaced(fronts, map));
     if number != 0 {
         return Choice::Refused(number);
     }
     highest_free(fronts, paused)
 }
 
-// The number of the first refusal that holds, or 0.
-fn refused(fronts: [u8; 8], map: [u8; 8]) -> u8
-    ensures { λ r. ⌜ r ≡ refusal fronts map ⌝ }
+// The same of a head, by its own timers: a priority is paused while its timer is above zero.
+pub fn choose_at(head: Head, fronts: [u8; 8], map: [u8; 8]) -> Choice
+    ensures { λ r. ⌜ (numberOf r ≡ firstOf (choosingOrder fronts map)) × (r ≡ choiceAt head fronts map) ⌝ }
 {
-    if some_above(map, 7) {
+    choose(fronts, map, head.marks())
+}
+
+// The number of the first refusal that holds, 22, 20, 21, or 0: by whether a map entry is above 7, a front above 8, a front misplaced.
+fn refused(wild: bool, high: bool, misplaced: bool) -> u8
+    ensures { λ r. ⌜ r ≡ firstOf (orderBy wild high misplaced) ⌝ }
+{
+    if wild {
         return 22;
     }
-    if some_above(fronts, 8) {
+    if high {
         return 20;
     }
-    if some_misplaced(fronts, map) {
+    if misplaced {
         return 21;
     }
     0

@@ -1,5 +1,4 @@
 // Reading the whole of standard input. A read that fails is not the end of the input: it is told on standard error.
-use crate::words;
 use libc::STDIN_FILENO;
 ghost use Prim.Native.Nat.{_≤_};
 ghost use mathlib.Core.Path.{_≡_};
@@ -55,12 +54,13 @@ fn read_once(rest: &mut [u8]) -> Turn
 fn told(name: &[u8], error: i32, count: usize) -> Reading
     ensures { λ r. ⌜ r .count ≡ count ⌝ }
 {
-    if error != 0 {
-        words::unread(name, error);
-    }
     Reading {
         count,
-        is_whole: error == 0,
+        is_whole: remarks::tell(
+            name,
+            b": no report, since standard input could not be read: error ",
+            error,
+        ),
     }
 }
 

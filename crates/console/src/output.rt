@@ -1,5 +1,4 @@
-// Writing on standard output, and a line on standard error. A write on standard output that fails is told on standard error.
-use crate::words;
+// Writing on standard output. A write that fails is told on standard error.
 use libc::STDERR_FILENO;
 use libc::STDOUT_FILENO;
 use page::Page;
@@ -61,11 +60,11 @@ fn write_all(octets: &[u8]) -> i32 {
 
 // Writes all of these octets, and answers whether that was done. A write that fails is told, behind the program's name.
 fn tried(name: &[u8], octets: &[u8]) -> bool {
-    let error = write_all(octets);
-    if error != 0 {
-        words::unwritten(name, error);
-    }
-    error == 0
+    remarks::tell(
+        name,
+        b": no whole report, since standard output could not be written: error ",
+        write_all(octets),
+    )
 }
 
 // Writes these octets where all before them were written, and answers whether that is so of them too. A write that fails is told on
@@ -79,12 +78,21 @@ pub fn write(name: &[u8], is_well: bool, octets: &[u8]) -> bool
     false
 }
 
+// Says that a report is longer than its page.
+fn overfull(name: &[u8]) {
+    io::write_all(STDERR_FILENO, name);
+    io::write_all(
+        STDERR_FILENO,
+        b": no report, since it is longer than its page\n",
+    );
+}
+
 // Writes the first octets, as many as are used. More used than there are is told, and nothing is written.
 fn write_first(name: &[u8], octets: &[u8], used: usize) -> bool
     ensures { λ r. ⌜ (length (now (octets .entry)) < used → r ≡ false) ⌝ }
 {
     if octets.len() < used {
-        words::overfull(name);
+        overfull(name);
         return false;
     }
     tried(name, &octets[..used])
@@ -97,22 +105,4 @@ pub fn write_page(name: &[u8], page: Page) -> bool
 {
     let octets = page.octets;
     write_first(name, &octets, page.used)
-}
-
-// The first octets on standard error, as many as are used; nothing where more are used than there are.
-fn remark_first(octets: &[u8], used: usize) -> bool
-    ensures { λ r. ⌜ (length (now (octets .entry)) < used → r ≡ false) ⌝ }
-{
-    if used > octets.len() {
-        return false;
-    }
-    io::write_all(STDERR_FILENO, &octets[..used])
-}
-
-// Writes what is on a page on standard error, and answers whether all of it was written. Of an overfull page nothing is.
-pub fn remark(page: Page) -> bool
-    ensures { λ r. ⌜ (length (page .octets) < page .used → r ≡ false) ⌝ }
-{
-    let octets = page.octets;
-    remark_first(&octets, page.used)
 }

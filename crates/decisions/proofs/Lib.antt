@@ -1,2 +1,3 @@
 -- Determinacy of the decisions.
 pub mod Decided
+pub mod Order

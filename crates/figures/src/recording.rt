@@ -1,7 +1,7 @@
 // Station B: frames that arrive and octets that are taken.
 use crate::turns;
+use marks::Marks;
 use moments::Moment;
-use recorder::Marks;
 use recorder::Watch;
 use settings::Settings;
 use settings::Settling;
@@ -25,7 +25,7 @@ fn settings() -> Settings {
 // Now and then a PFC frame starts.
 fn started(marks: Marks, turn: u64) -> Marks {
     if turn % 128 == 0 {
-        recorder::started(marks, OctetTimes(turn))
+        marks::started(marks, OctetTimes(turn))
     } else {
         marks
     }

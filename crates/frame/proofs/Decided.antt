@@ -14,7 +14,7 @@ use Rattle.frame.proofs.times_of.Kinds as times-of-kinds
 use Rattle.frame.proofs.times_of.Reads as times-of
 
 pub read-decides : Decides 1 read-kinds.ps read-kinds.r read.Post
-read-decides κs args x y e f p q = p ∙ sym q
+read-decides κs args x y e f p q = p .1 ∙ sym (q .1)
 
 pub times-of-decides : Decides 0 times-of-kinds.ps times-of-kinds.r times-of.Post
 times-of-decides κs args x y e f p q = p ∙ sym q

@@ -1,20 +1,17 @@
 -- Document 01, "The frame", reading: what a frame is, for any octets, any length, any M and any own address.
 use Prim.Native.Nat.{ℕ, _-_}
-use mathlib.Core.Bool.{Bool, true, false}
+use mathlib.Core.Bool.{Bool, true, not, _&&_}
 use mathlib.Core.List.{List, [], _∷_}
 use lib.ListN.{length, drop, getD}
 use lib.Dec.{ltb, eqb}
 use Rattle.ground.specs.Pick.{pick}
+use Rattle.ground.specs.First.{Refusal, _gives_, firstOf}
 use Rattle.ground.specs.Eight.{eight}
 use Rattle.octets.specs.Numbers.{addressAt}
 use Rattle.frame.specs.Layout.{frameOctets, group, controlType, pfcOpcode, destination, lengthType, opcode, enableOctet, timeField}
 use Rattle.frame.specs.declared.Request.{Request}
 use Rattle.frame.specs.declared.Verdict.{Verdict}
 use Rattle.frame.specs.declared.Verdict.the-variants.{Data, Asks, Refused}
-
--- refusals 13 "M outside 64-9,216", 1 "frame shorter than 60", 2 "longer than M - 4", in this order; 0: none of them
-unfoldable pub sizeRefusal : ℕ → ℕ → ℕ
-sizeRefusal size M = pick (ltb M 64) 13 (pick (ltb 9216 M) 13 (pick (ltb size frameOctets) 1 (pick (ltb (M - 4) size) 2 0)))
 
 -- "Accepted destinations of control frames are the group address and the station's own."
 unfoldable pub isAccepted : ℕ → ℕ → Bool
@@ -39,23 +36,42 @@ requestOf enable times =
 abbrev pub requestIn : List ℕ → Request
 requestIn frame = requestOf (enableOctet frame) (eight (timeField frame))
 
--- a control frame: refusals 3 "control frame for another address", 4 "opcode not 01-01"; "else a request"
-unfoldable pub controlVerdict : ℕ → List ℕ → Verdict
-controlVerdict own frame =
-    pick (isAccepted own (destination frame))
-    (pick (eqb (opcode frame) pfcOpcode) (Asks (requestIn frame)) (Refused 4))
-    (Refused 3)
+-- 13: "M outside 64-9,216"
+unfoldable pub isOutside : ℕ → Bool
+isOutside M = pick (ltb M 64) true (ltb 9216 M)
 
--- "a Length/Type other than 88-08 is data, whatever its address"
-unfoldable pub wholeVerdict : ℕ → List ℕ → Verdict
-wholeVerdict own frame = pick (eqb (lengthType frame) controlType) (controlVerdict own frame) Data
+-- a control frame: any other Length/Type "is data, whatever its address"
+unfoldable pub isControl : List ℕ → Bool
+isControl frame = eqb (lengthType frame) controlType
 
--- "Reading takes M and, in order: refusals 13, 1, 2; .. data ..; then refusals 3, 4; else a request."
+-- 3: "control frame for another address"
+unfoldable pub isElsewhere : ℕ → List ℕ → Bool
+isElsewhere own frame = isControl frame && not (isAccepted own (destination frame))
+
+-- 4: "opcode not 01-01", of a control frame
+unfoldable pub isOther : List ℕ → Bool
+isOther frame = isControl frame && not (eqb (opcode frame) pfcOpcode)
+
+-- "Reading takes M and, in order: refusals 13, 1, 2; .. data ..; then refusals 3, 4", by the values of their tests
+unfoldable pub orderBy : Bool → Bool → Bool → Bool → Bool → List Refusal
+orderBy outside short long elsewhere other = outside gives 13 ∷ short gives 1 ∷ long gives 2 ∷ elsewhere gives 3 ∷ other gives 4 ∷ []
+
+-- 1 is "frame shorter than 60", 2 "longer than M - 4". Data has neither 3 nor 4, which are of control frames
+abbrev pub readingOrder : List ℕ → ℕ → List ℕ → List Refusal
+readingOrder frame M own =
+    orderBy (isOutside M) (ltb (length frame) frameOctets) (ltb (M - 4) (length frame)) (isElsewhere (addressAt own 0) frame) (isOther frame)
+
+-- what is not refused: data by its Length/Type, "else a request"
+unfoldable pub taken : List ℕ → Verdict
+taken frame = pick (isControl frame) (Asks (requestIn frame)) Data
+
+-- the verdict with a number: refused by it, or taken where it is 0
+unfoldable pub verdictBy : ℕ → List ℕ → Verdict
+verdictBy number frame = pick (eqb number 0) (taken frame) (Refused number)
+
+-- what a frame is to a station with this own address
 unfoldable pub verdict : List ℕ → ℕ → List ℕ → Verdict
-verdict frame M own =
-    pick (eqb (sizeRefusal (length frame) M) 0)
-    (wholeVerdict (addressAt own 0) frame)
-    (Refused (sizeRefusal (length frame) M))
+verdict frame M own = verdictBy (firstOf (readingOrder frame M own)) frame
 
 -- "the answer hands back the caller's own frame from octet 12 on"; "a refusal or a request has an empty part"
 unfoldable pub partFor : Verdict → List ℕ → List ℕ
@@ -63,11 +79,17 @@ partFor Data frame = drop 12 frame
 partFor (Asks request) frame = []
 partFor (Refused number) frame = []
 
+-- where the part starts in a frame of a size
+abbrev pub partStart : Verdict → ℕ → ℕ
+partStart Data size = 12
+partStart (Asks request) size = size
+partStart (Refused number) size = size
+
 -- the part handed back
 abbrev pub partOf : List ℕ → ℕ → List ℕ → List ℕ
 partOf frame M own = partFor (verdict frame M own) frame
 
--- document 01's number of a verdict: the refusal's, or 0 where nothing is refused
+-- document 01's number of each verdict: the refusal's, or 0 for data and a request, which are not refused
 unfoldable pub numberOf : Verdict → ℕ
 numberOf Data = 0
 numberOf (Asks request) = 0

@@ -1,6 +1,16 @@
 // The PFC frame of document 01: its constants, and reading one. Any octets and any lengths are answered; no caller checks first.
+ghost use mathlib.Core.Bool.{not, _&&_};
+ghost use mathlib.Core.List.{[], _∷_};
 ghost use mathlib.Core.Path.{_≡_};
-ghost use Rattle.frame.specs.Read.{sizeRefusal, isAccepted, controlVerdict, wholeVerdict, verdict, partOf, requestIn, timesOf};
+ghost use Prim.Native.Nat.{_-_};
+ghost use lib.Dec.{ltb, eqb};
+ghost use Rattle.ground.specs.First.{firstOf, _gives_};
+ghost use Rattle.ground.specs.Pick.{pick};
+ghost use Rattle.octets.specs.Numbers.{addressAt};
+ghost use Rattle.frame.specs.Layout.{destination, opcode, pfcOpcode};
+ghost use Rattle.frame.specs.Read.{isAccepted, isControl, isOutside, readingOrder, numberOf};
+ghost use Rattle.frame.specs.Read.{verdict, partStart, partOf, requestIn, timesOf};
+ghost use Rattle.frame.specs.declared.Verdict.the-variants.{Asks, Data};
 
 // The octets of a control frame, and the fewest of any frame.
 pub const FRAME_OCTETS: usize = 60;
@@ -31,23 +41,53 @@ pub enum Verdict {
     Refused(u8),
 }
 
-// Refusals 13, 1 and 2, which go by the frame's length and M alone; 0 where none of them holds.
-fn size_refusal(size: u64, largest: u64) -> u8
-    ensures { λ r. ⌜ r ≡ sizeRefusal size largest ⌝ }
+// The number of the first of 13, 1 and 2 that holds, or 0: by whether M is outside its limits, the frame shorter than 60 octets, longer than
+// M - 4. (They are tried before any octet is looked at: the frame's length is known then.)
+fn size_refused(outside: bool, short: bool, long: bool) -> u8
+    ensures { λ r. ⌜ r ≡ firstOf (outside gives 13 ∷ short gives 1 ∷ long gives 2 ∷ []) ⌝ }
 {
-    if largest < 64 {
+    if outside {
         return 13;
     }
-    if 9216 < largest {
-        return 13;
-    }
-    if size < FRAME_OCTETS as u64 {
+    if short {
         return 1;
     }
-    if largest - 4 < size {
+    if long {
         return 2;
     }
     0
+}
+
+// The number of the first of 3 and 4 that holds, or 0: a control frame for another address, one of another opcode.
+fn control_refused(elsewhere: bool, other: bool) -> u8
+    ensures { λ r. ⌜ r ≡ firstOf (elsewhere gives 3 ∷ other gives 4 ∷ []) ⌝ }
+{
+    if elsewhere {
+        return 3;
+    }
+    if other {
+        return 4;
+    }
+    0
+}
+
+fn is_outside(largest: u64) -> bool
+    ensures { λ r. ⌜ r ≡ isOutside largest ⌝ }
+{
+    if largest < 64 {
+        return true;
+    }
+    9216 < largest
+}
+
+// Whether a frame is longer than M - 4, which is 0 for an M below 4.
+fn is_long(size: u64, largest: u64) -> bool
+    ensures { λ r. ⌜ r ≡ ltb (largest - 4) size ⌝ }
+{
+    if largest < 4 {
+        return 0 < size;
+    }
+    largest - 4 < size
 }
 
 fn is_accepted(own: u64, to: u64) -> bool
@@ -76,51 +116,79 @@ fn request_in(frame: &[u8]) -> Request
     }
 }
 
-// A control frame of 60 octets or more: for another address 3, another opcode 4, else its request.
-fn control(own: u64, frame: &[u8]) -> Verdict
-    ensures { λ r. ⌜ r ≡ controlVerdict own (now (frame .entry)) ⌝ }
+fn is_control(frame: &[u8]) -> bool
+    ensures { λ r. ⌜ r ≡ isControl (now (frame .entry)) ⌝ }
 {
-    if !is_accepted(own, octets::address_at(frame, 0)) {
-        return Verdict::Refused(3);
-    }
-    if octets::word_at(frame, 14) != PFC_OPCODE {
-        return Verdict::Refused(4);
-    }
-    Verdict::Asks(request_in(frame))
+    octets::word_at(frame, 12) == CONTROL_TYPE
 }
 
-// A frame of 60 octets or more: data, or a control frame.
-fn whole(own: u64, frame: &[u8]) -> Verdict
-    ensures { λ r. ⌜ r ≡ wholeVerdict own (now (frame .entry)) ⌝ }
+// Whether it is a control frame for another address.
+fn is_elsewhere(control: bool, own: [u8; 6], frame: &[u8]) -> bool
+    ensures { λ r. ⌜ r ≡ control && not (isAccepted (addressAt own 0) (destination (now (frame .entry)))) ⌝ }
 {
-    if octets::word_at(frame, 12) != CONTROL_TYPE {
-        return Verdict::Data;
+    if control {
+        return !is_accepted(octets::address_at(&own, 0), octets::address_at(frame, 0));
     }
-    control(own, frame)
+    false
+}
+
+// Whether it is a control frame of another opcode.
+fn is_other(control: bool, frame: &[u8]) -> bool
+    ensures { λ r. ⌜ r ≡ control && not (eqb (opcode (now (frame .entry))) pfcOpcode) ⌝ }
+{
+    if !control {
+        return false;
+    }
+    octets::word_at(frame, 14) != PFC_OPCODE
+}
+
+// A frame that is not refused: a control frame's request, or data.
+fn taken(control: bool, frame: &[u8]) -> Verdict
+    ensures { λ r. ⌜ r ≡ pick control (Asks (requestIn (now (frame .entry)))) Data ⌝ }
+{
+    if control {
+        return Verdict::Asks(request_in(frame));
+    }
+    Verdict::Data
 }
 
 // What a frame is to a station with this own address, where the largest frame is M: document 01's order of refusals 13, 1, 2, then
 // data, then 3, 4, else the request. The first octet of the enable vector and octets 34 on are not looked at.
 pub fn read(frame: &[u8], largest: u64, own: [u8; 6]) -> Verdict
-    ensures { λ r. ⌜ r ≡ verdict (now (frame .entry)) largest own ⌝ }
+    ensures { λ r. ⌜ (numberOf r ≡ firstOf (readingOrder (now (frame .entry)) largest own)) × (r ≡ verdict (now (frame .entry)) largest own) ⌝ }
 {
-    let number = size_refusal(frame.len() as u64, largest);
+    let short = frame.len() < FRAME_OCTETS;
+    let long = is_long(frame.len() as u64, largest);
+    let size_number = size_refused(is_outside(largest), short, long);
+    if size_number != 0 {
+        return Verdict::Refused(size_number);
+    }
+    let control = is_control(frame);
+    let elsewhere = is_elsewhere(control, own, frame);
+    let number = control_refused(elsewhere, is_other(control, frame));
     if number != 0 {
         return Verdict::Refused(number);
     }
-    whole(octets::address_at(&own, 0), frame)
+    taken(control, frame)
+}
+
+// Where the part handed back starts: from octet 12 on of data, else at the frame's end.
+fn part_start(found: Verdict, size: usize) -> usize
+    ensures { λ r. ⌜ r ≡ partStart found size ⌝ }
+{
+    match found {
+        Verdict::Data => 12,
+        Verdict::Asks(_) => size,
+        Verdict::Refused(_) => size,
+    }
 }
 
 // The part of a data frame from octet 12 on, the caller's own octets; of any other frame an empty part.
 pub fn part(frame: &[u8], largest: u64, own: [u8; 6]) -> &[u8]
     ensures { λ r. ⌜ now r ≡ partOf (now (frame .entry)) largest own ⌝ }
 {
-    let found = read(frame, largest, own);
-    match found {
-        Verdict::Data => &frame[12..],
-        Verdict::Asks(_) => &frame[..0],
-        Verdict::Refused(_) => &frame[..0],
-    }
+    let start = part_start(read(frame, largest, own), frame.len());
+    &frame[start..]
 }
 
 // The eight times of a request, time[0] first.

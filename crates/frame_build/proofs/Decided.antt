@@ -10,10 +10,10 @@ use Rattle.frame_build.proofs.build.Kinds as build-kinds
 use Rattle.frame_build.proofs.build.Reads as build
 
 pub build-decides : Decides 1 build-kinds.ps build-kinds.r build.Post
-build-decides κs args x y e f p q = p .0 ∙ sym (q .0)
+build-decides κs args x y e f p q = p .1 ∙ sym (q .1)
 
 -- and the buffer at exit
 pub build-decides-buffer : (κs : Lfts 1) (args : Dens κs build-kinds.ps) (x y : resT build-kinds.r κs .Denot)
     (e f : AtExit (endedOf 1 build-kinds.ps build-kinds.r) κs) →
     build.Post κs args x e → build.Post κs args y f → now (e .0) ≡ now (f .0)
-build-decides-buffer κs args x y e f p q = p .1 ∙ sym (q .1)
+build-decides-buffer κs args x y e f p q = p .2 ∙ sym (q .2)

@@ -4,10 +4,9 @@ use mathlib.Core.Bool.{Bool}
 use mathlib.Core.List.{List, [], _∷_}
 use lib.ListN.{replicate, set}
 use Rattle.ground.specs.Eight.{eight, bitOf}
-use Rattle.ground.specs.Pick.{pick}
 use Rattle.ground.specs.Table.{same}
 use Rattle.frame_build.specs.Build.{builtFrame}
-use Rattle.frame.specs.Read.{verdict, wholeVerdict, controlVerdict, isAccepted, sizeRefusal}
+use Rattle.frame.specs.Read.{verdict}
 use Rattle.frame.specs.declared.Verdict.{Verdict}
 use Rattle.frame.specs.declared.Verdict.the-variants.{Data, Asks, Refused}
 
@@ -22,7 +21,6 @@ unfoldable pub frameWithVector : ℕ → ℕ → List ℕ
 frameWithVector first second = set (builtFrame (replicate 6 0) second (replicate 8 0)) 16 first
 
 unfoldable pub frameCases : List Bool
-unfolding same enabledIn frameWithVector verdict wholeVerdict controlVerdict isAccepted sizeRefusal pick
 frameCases =
     -- "P enable vector FF-08: only priority 3 is set"
     same (enabledIn (verdict (frameWithVector 0xFF 0x08) 2000 (replicate 6 0))) (0 ∷ 0 ∷ 0 ∷ 1 ∷ 0 ∷ 0 ∷ 0 ∷ 0 ∷ []) ∷ []

@@ -1,8 +1,11 @@
 // Building the PFC frame of document 01 in a buffer that the caller lends.
 ghost use mathlib.Core.Path.{_≡_};
 ghost use mathlib.Core.List.{_++_};
+ghost use Prim.Native.Nat.{_≤_};
 ghost use lib.ListN.{length, replicate};
-ghost use Rattle.frame_build.specs.Build.{buildVerdict, bufferAfter, leadOctets, allTimeOctets};
+ghost use Rattle.ground.specs.First.{firstOf};
+ghost use Rattle.frame_build.specs.Build.{orderBy, buildingOrder, buildNumberOf, buildVerdict};
+ghost use Rattle.frame_build.specs.Build.{putBefore, bufferAfter, leadOctets, allTimeOctets};
 
 // What building answers.
 pub enum Built {
@@ -78,18 +81,39 @@ fn frame_octets(lead: [u8; 18], times: [u8; 16]) -> [u8; frame::FRAME_OCTETS]
     made
 }
 
+// The number of the first refusal that holds, 5, 6, or 0: by the buffer's length and the source's first octet.
+fn refused(size: usize, first: u8) -> u8
+    ensures { λ r. ⌜ r ≡ firstOf (orderBy size first) ⌝ }
+{
+    if size < frame::FRAME_OCTETS {
+        return 5;
+    }
+    if first % 2 == 1 {
+        return 6;
+    }
+    0
+}
+
+// Puts octets at the front of a buffer that has room for them, and changes none after them.
+fn put(made: &[u8], buffer: &mut [u8])
+    requires { ⌜ length (now made) ≤ length (now buffer) ⌝ }
+    ensures { λ r. ⌜ now (buffer .exit) ≡ putBefore (now (made .entry)) (now (buffer .entry)) ⌝ }
+{
+    bytes::copy(made, buffer);
+}
+
 // Writes the PFC frame with this source, enable octet and times into the buffer's first 60 octets and leaves the rest. A buffer under
 // 60 octets is refused with 5, a source with the group bit with 6, and then no octet changes.
 pub fn build(buffer: &mut [u8], source: [u8; 6], e: u8, times: [u16; 8]) -> Built
-    ensures { λ r. ⌜ (r ≡ buildVerdict (length (now (buffer .entry))) source) × (now (buffer .exit) ≡ bufferAfter source e times (now (buffer .entry))) ⌝ }
+    ensures { λ r. ⌜ (buildNumberOf r ≡ firstOf (buildingOrder (length (now (buffer .entry))) source))
+        × (r ≡ buildVerdict (length (now (buffer .entry))) source)
+        × (now (buffer .exit) ≡ bufferAfter source e times (now (buffer .entry))) ⌝ }
 {
-    if buffer.len() < frame::FRAME_OCTETS {
-        return Built::Refused(5);
-    }
-    if source[0] % 2 == 1 {
-        return Built::Refused(6);
+    let number = refused(buffer.len(), source[0]);
+    if number != 0 {
+        return Built::Refused(number);
     }
     let made = frame_octets(lead_octets(source, e), time_octets(times));
-    bytes::copy(&made, buffer);
+    put(&made, buffer);
     Built::Written
 }

@@ -8,7 +8,7 @@ use Rattle.headroom_sum.proofs.sum.Kinds as sum-kinds
 use Rattle.headroom_sum.proofs.sum.Reads as sum
 
 pub halt-limit-decides : Decides 0 halt-limit-kinds.ps halt-limit-kinds.r halt-limit.Post
-halt-limit-decides κs args x y e f p q = p ∙ sym q
+halt-limit-decides κs args x y e f p q = p .1 ∙ sym (q .1)
 
 pub sum-decides : Decides 0 sum-kinds.ps sum-kinds.r sum.Post
-sum-decides κs args x y e f p q = p ∙ sym q
+sum-decides κs args x y e f p q = p .1 ∙ sym (q .1)

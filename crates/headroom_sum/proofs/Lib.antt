@@ -4,4 +4,3 @@ pub mod Exactly
 pub mod Link
 pub mod Order
 pub mod Rate
-pub mod Whole

@@ -1,6 +1,5 @@
 -- What the contracts of the headroom sum cite. `Stages` only stands between the functions of `sum`; the others are to be believed.
 pub mod Cases
-pub mod Given
 pub mod Headroom
 pub mod Link
 pub mod Rates

@@ -4,6 +4,7 @@ use mathlib.Core.Bool.{Bool}
 use mathlib.Core.List.{List, [], _∷_}
 use lib.Dec.{eqb}
 use Rattle.ground.specs.Pick.{pick}
+use Rattle.ground.specs.First.{Refusal, _gives_}
 use Rattle.units.specs.Counts.{quanta}
 use Rattle.headroom_sum.specs.declared.HaltLimit.{HaltLimit}
 
@@ -25,6 +26,10 @@ haltLimit rate = limitIn haltLimits rate
 -- 10 "rate": a number without a halt limit is no rate
 abbrev pub refused10 : ℕ → Bool
 refused10 rate = eqb (haltLimit rate) 0
+
+-- the one refusal of `halt_limit`
+abbrev pub limitOrder : ℕ → List Refusal
+limitOrder rate = refused10 rate gives 10 ∷ []
 
 -- the rate's limit, or 10 where it is no rate
 unfoldable pub limitAnswer : ℕ → HaltLimit

@@ -1,8 +1,10 @@
 -- What `sum` answers for every input, refused ones too, and document 01's number for each case.
 use Prim.Native.Nat.{ℕ}
 use mathlib.Core.Bool.{Bool, true}
+use mathlib.Core.List.{List, [], _∷_}
 use lib.Dec.{eqb}
 use Rattle.ground.specs.Pick.{pick}
+use Rattle.ground.specs.First.{Refusal, _gives_, firstOf}
 use Rattle.units.specs.Counts.{bits}
 use Rattle.limits.specs.Limits.{refused13}
 use Rattle.room_to_keep.specs.Keep.{kept, refused14}
@@ -37,15 +39,20 @@ over14 i = pick (stationsOver i) true (pathsOver i)
 abbrev pub over19 : Inputs → Bool
 over19 i = refused19 (i .rate) (i .halt .0)
 
--- "Headroom 10, 11, 12, 13, 14, 19": the first of them whose condition holds, or 0
-unfoldable pub sumRefusal : Inputs → ℕ
-sumRefusal i =
-    pick (refused10 (i .rate)) 10
-    (pick (refused11 (i .metres)) 11
-    (pick (refused12 (i .percentage)) 12
-    (pick (refused13 (i .largest)) 13
-    (pick (over14 i) 14
-    (pick (over19 i) 19 0)))))
+-- "Headroom 10, 11, 12, 13, 14, 19"
+abbrev pub sumOrder : Inputs → List Refusal
+sumOrder i =
+    refused10 (i .rate) gives 10
+    ∷ refused11 (i .metres) gives 11
+    ∷ refused12 (i .percentage) gives 12
+    ∷ refused13 (i .largest) gives 13
+    ∷ over14 i gives 14
+    ∷ over19 i gives 19
+    ∷ []
+
+-- the first of them whose condition holds; 0: none of them
+abbrev pub sumRefusal : Inputs → ℕ
+sumRefusal i = firstOf (sumOrder i)
 
 -- the sum, item by item
 abbrev pub items : Inputs → Items

@@ -9,13 +9,16 @@ use room_to_keep::Kept;
 use units::BitTimes;
 use units::Quanta;
 ghost use mathlib.Core.Path.{_≡_};
+ghost use mathlib.Core.List.{[], _∷_};
 ghost use Prim.Native.Nat.{_≤_};
+ghost use Rattle.ground.specs.First.{_gives_, firstOf};
 ghost use Rattle.units.specs.Units.{bitsOfOctets, wireTime};
 ghost use Rattle.limits.specs.Limits.{largestM, largestDelay, largestPath, refused13};
 ghost use Rattle.headroom_sum.specs.Link.{linkBits};
-ghost use Rattle.headroom_sum.specs.Rates.{largestRate, limitAnswer};
-ghost use Rattle.headroom_sum.specs.Headroom.{largestMetres, leastPercentage, largestPercentage, requestPath, dataPath, totalBits, stationOver};
-ghost use Rattle.headroom_sum.specs.Sum.{summed};
+ghost use Rattle.headroom_sum.specs.Rates.{largestRate, limitOrder, limitAnswer, limitNumberOf};
+ghost use Rattle.headroom_sum.specs.Headroom.{largestMetres, leastPercentage, largestPercentage, refused12, stationOver};
+ghost use Rattle.headroom_sum.specs.Headroom.{requestPath, dataPath, totalBits};
+ghost use Rattle.headroom_sum.specs.Sum.{sumOrder, summed, sumNumberOf};
 ghost use Rattle.headroom_sum.specs.Stages.{Linked, Pathed};
 
 // What is allowed of the cable: its metres, and the signal's speed in it as a percentage of light's.
@@ -64,7 +67,7 @@ pub enum HaltLimit {
 
 // The limit of the halt delay at each rate in Mb/s: 6,144, 24,576 and 61,440 bits; 10 for a number that is no rate.
 pub fn halt_limit(rate: u64) -> HaltLimit
-    ensures { λ r. ⌜ r ≡ limitAnswer rate ⌝ }
+    ensures { λ r. ⌜ (limitNumberOf r ≡ firstOf (limitOrder rate)) × (r ≡ limitAnswer rate) ⌝ }
 {
     match rate {
         10_000 => HaltLimit::Limit(Quanta(12)),
@@ -99,7 +102,7 @@ fn request_bits(
 
 // The data path: A transmit + link + B receive.
 fn data_bits(a_transmit: BitTimes, link: BitTimes, b_receive: BitTimes) -> BitTimes
-    requires { ⌜ («a_transmit» .0 ≤ largestDelay) × (link .0 ≤ largestPath) × («b_receive» .0 ≤ largestDelay) ⌝ }
+    requires { ⌜ («a_transmit» .0 ≤ largestPath) × (link .0 ≤ largestPath) × («b_receive» .0 ≤ largestPath) ⌝ }
     ensures { λ r. ⌜ r .0 ≡ dataPath («a_transmit» .0) (link .0) («b_receive» .0) ⌝ }
 {
     units::sum_of_bits(units::sum_of_bits(a_transmit, link), b_receive)
@@ -207,21 +210,40 @@ fn after_link(inputs: Inputs, link: BitTimes, halting: BitTimes) -> Summed
     after_paths(inputs, link, request, data, halting)
 }
 
+// 12: the percentage is outside its range.
+fn outside_percentage(percentage: u64) -> bool
+    ensures { λ r. ⌜ r ≡ refused12 percentage ⌝ }
+{
+    if percentage < LEAST_PERCENTAGE {
+        return true;
+    }
+    LARGEST_PERCENTAGE < percentage
+}
+
+// 11, then 12; 0 where neither holds.
+fn cable_refusal(is_long: bool, is_outside: bool) -> u8
+    ensures { λ r. ⌜ r ≡ firstOf («is_long» gives 11 ∷ «is_outside» gives 12 ∷ []) ⌝ }
+{
+    if is_long {
+        return 11;
+    }
+    if is_outside {
+        return 12;
+    }
+    0
+}
+
 // The headroom sum. Refusals 10, 11, 12, 13, 14, 19: the first whose condition holds.
 pub fn sum(inputs: Inputs) -> Summed
-    ensures { λ r. ⌜ r ≡ summed inputs ⌝ }
+    ensures { λ r. ⌜ (sumNumberOf r ≡ firstOf (sumOrder inputs)) × (r ≡ summed inputs) ⌝ }
 {
     let HaltLimit::Limit(limit) = halt_limit(inputs.rate) else {
         return Summed::Refused(10);
     };
-    if LARGEST_METRES < inputs.metres {
-        return Summed::Refused(11);
-    }
-    if inputs.percentage < LEAST_PERCENTAGE {
-        return Summed::Refused(12);
-    }
-    if LARGEST_PERCENTAGE < inputs.percentage {
-        return Summed::Refused(12);
+    let is_outside = outside_percentage(inputs.percentage);
+    let number = cable_refusal(LARGEST_METRES < inputs.metres, is_outside);
+    if number != 0 {
+        return Summed::Refused(number);
     }
     let link = link_bits(inputs.metres, inputs.rate, inputs.percentage);
     after_link(inputs, link, units::bits_of_quanta(limit))

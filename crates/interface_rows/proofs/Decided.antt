@@ -17,8 +17,8 @@ pub decided :
     (Decides 0 receive-of-kinds.ps receive-of-kinds.r receive-of.Post) ×
     (Decides 1 stack-delays-kinds.ps stack-delays-kinds.r stack-delays.Post)
 decided = (
-  λ κs args x y e f p q. p ∙ sym q,
+  λ κs args x y e f p q. p .1 ∙ sym (q .1),
   λ κs args x y e f p q. λ i. record { 0 = (p ∙ sym q) i },
   λ κs args x y e f p q. λ i. record { 0 = (p ∙ sym q) i },
-  λ κs args x y e f p q. p ∙ sym q,
+  λ κs args x y e f p q. p .1 ∙ sym (q .1),
 )

@@ -5,6 +5,7 @@ use mathlib.Core.List.{List, [], _∷_}
 use lib.Dec.{ltb}
 use lib.ListN.{length, getD}
 use Rattle.ground.specs.Pick.{pick}
+use Rattle.ground.specs.First.{Refusal, _gives_}
 use Rattle.units.specs.Counts.{bits}
 use Rattle.limits.specs.Limits.{largestDelay, delayOver}
 use Rattle.interface_rows.specs.TableN1.{row, tableN1, isRow, transmitHalf, receiveHalf}
@@ -41,3 +42,16 @@ enough = 2 * largestDelay + 1
 -- also the sums of the rows' halves)
 unfoldable pub stackAnswer : List ℕ → Stacked
 stackAnswer rows = pick (allKnown rows) (delaysOf (stackBits rows)) Stacked.Unknown
+
+-- 14 of a stack whose rows are all known: the larger of its delays is above what a station delay may be; its one refusal
+abbrev pub stackOver : List ℕ → Bool
+stackOver rows = pick (allKnown rows) (delayOver (receiveHalf (stackBits rows))) false
+
+abbrev pub stackOrder : List ℕ → List Refusal
+stackOrder rows = stackOver rows gives 14 ∷ []
+
+-- document 01's number of an answer: the refusal's; two delays are none, and for a row that the table lacks document 01 has no number
+unfoldable pub stackNumberOf : Stacked → ℕ
+stackNumberOf (Stacked.Delays transmit receive) = 0
+stackNumberOf (Stacked.Refused number) = number
+stackNumberOf Stacked.Unknown = 0

@@ -5,8 +5,9 @@ use units::Quanta;
 ghost use mathlib.Core.Path.{_≡_};
 ghost use mathlib.Core.List.{map};
 ghost use Prim.Native.Nat.{_+_, min};
-ghost use Rattle.interface_rows.specs.TableN1.{rowAt, transmitHalf, receiveHalf};
-ghost use Rattle.interface_rows.specs.Stack.{indexFrom, enough, delaysOf, stackAnswer};
+ghost use Rattle.ground.specs.First.{firstOf};
+ghost use Rattle.interface_rows.specs.TableN1.{rowAt, rowNumberOf, transmitHalf, receiveHalf};
+ghost use Rattle.interface_rows.specs.Stack.{indexFrom, enough, delaysOf, stackOrder, stackAnswer, stackNumberOf};
 
 // A row: the delay of both directions together, in bits and in quanta.
 pub struct Row(pub BitTimes, pub Quanta);
@@ -58,7 +59,7 @@ const ENOUGH: BitTimes = BitTimes(2 * LARGEST_DELAY.0 + 1);
 
 // The row at an index counted from 0; any number may be asked.
 pub fn row_at(index: usize) -> RowAt
-    ensures { λ r. ⌜ r ≡ rowAt index ⌝ }
+    ensures { λ r. ⌜ (rowNumberOf r ≡ 0) × (r ≡ rowAt index) ⌝ }
 {
     if index < ROWS {
         RowAt::Found(TABLE_N_1[index])
@@ -115,7 +116,8 @@ fn halves(whole: BitTimes) -> Stacked
 // in it. Each octet names a row, counted from first. Any octets are answered: one that names no row gives Unknown, a delay above
 // 1,048,576 gives 14.
 pub fn stack_delays(first: u8, rows: &[u8]) -> Stacked
-    ensures { λ r. ⌜ r ≡ stackAnswer (map (indexFrom first) (now (rows .entry))) ⌝ }
+    ensures { λ r. ⌜ (stackNumberOf r ≡ firstOf (stackOrder (map (indexFrom first) (now (rows .entry)))))
+        × (r ≡ stackAnswer (map (indexFrom first) (now (rows .entry)))) ⌝ }
 {
     let mut whole = BitTimes(0);
     let mut i = 0;

@@ -1,28 +1,24 @@
 -- What a PFC frame of B's asks, and what it does at A: a frame built while a priority is wanted sets its timer to T.
 use Prim.Native.Nat.{ℕ, _<_}
-use mathlib.Core.Bool.{Bool, true, false}
+use mathlib.Core.Bool.{true}
 use mathlib.Core.Path.{_≡_, refl, ap, _∙_}
 use mathlib.Core.List.{List, []}
 use native.Mathlib.Omega.{arith}
-use borrow.Author.Tests.{ltb-true, ltb-false}
-use lib.Dec.{ltb}
-use lib.ListN.{getD, length, List·getD-eq-default}
-use Rattle.ground.specs.Pick.{pick}
-use Rattle.ground.specs.Eight.{isSet}
-use Rattle.ground.proofs.Eight.{getD-eight, below-eight}
+use lib.ListN.{getD, length}
 use Rattle.frame_build.specs.Build.{builtFrame}
 use Rattle.frame.specs.Read.{verdict, requestOf, timesOf}
 use Rattle.frame.specs.declared.Verdict.{Verdict}
 use Rattle.frame.specs.declared.Verdict.the-variants.{Data, Asks, Refused}
+use Rattle.frame.proofs.Reading.{times-kept}
 use Rattle.frame_build.proofs.RoundTrip.{reads-back}
 use Rattle.head.specs.declared.Head.{Head}
 use Rattle.head.specs.Timers.{timer, isNamed}
 use Rattle.head.proofs.Timers.{timer-replaced}
 use Rattle.settings.proofs.Enabled.{enabled-set}
-use Rattle.recorder.specs.declared.Marks.{Marks}
+use Rattle.marks.specs.declared.Marks.{Marks}
 use Rattle.recorder.specs.declared.Watch.{Watch}
-use Rattle.recorder.specs.Watching.{wantedAt, timeFor, timesFor}
-use Rattle.recorder.proofs.DueLaws.{time-where-wanted}
+use Rattle.marks.specs.Marks.{wantedAt, timesFor}
+use Rattle.marks.proofs.DueLaws.{time-where-wanted, times-fit}
 use Rattle.bench_meaning.specs.State.{Frame}
 use Rattle.bench_meaning.specs.Step.{sourceB, addressA, effectOf, pfcNow}
 use Rattle.no_loss.proofs.Watches.{SoundWatch, Enabled, one-of-eight, Shares, sharing}
@@ -33,22 +29,6 @@ pub record AsksFor (w : Watch) (p : ℕ) (f : Frame) : Type 0 where
   pub built : f .octets ≡ builtFrame sourceB (w .settings .enabled) times
   pub fit : (n : ℕ) → getD times n 0 < 65536
   pub asks : (n : ℕ) → Shares p n → getD times n 0 ≡ w .settings .pause
-
--- each time of the frame fits its two octets
-time-fits : (first second : Bool) (pause : ℕ) → pause < 65536 → pick first (pick second pause 0) 0 < 65536
-unfolding pick
-time-fits true true pause h = h
-time-fits true false pause h = omega arith
-time-fits false second pause h = omega arith
-
--- and so each of the eight, and what stands past them
-times-fit : (enabled pause : ℕ) (marks : Marks) → pause < 65536 → (n : ℕ) → getD (timesFor enabled pause marks) n 0 < 65536
-unfolding timesFor timeFor
-times-fit enabled pause marks h n = go (ltb n 8) refl
-  where
-    go : (below : Bool) → ltb n 8 ≡ below → getD (timesFor enabled pause marks) n 0 < 65536
-    go true e = rw (getD-eight (timeFor enabled pause marks) 0 n (ltb-true _ _ e)) (time-fits (isSet enabled n) (wantedAt marks n) pause h)
-    go false e = rw (List·getD-eq-default (timesFor enabled pause marks) 0 {n = n} (ltb-false _ _ e)) (omega arith)
 
 -- the PFC frame that starts now asks T for each enabled priority that is wanted
 pub asks-now : (w : Watch) (marks : Marks) (p end : ℕ) → SoundWatch w → Enabled w p → wantedAt marks p ≡ true →
@@ -64,10 +44,6 @@ asks-now w marks p end sound on wanted =
           time-where-wanted enabled (w .settings .pause) marks n (one-of-eight w n there) (enabled-set enabled n there)
           (sharing (λ k. wantedAt marks k ≡ true) mine wanted);
     }
-
--- a request's times are those that it was made of
-times-kept : (e : ℕ) (times : List ℕ) (p : ℕ) → p < 8 → getD (timesOf (requestOf e times)) p 0 ≡ getD times p 0
-times-kept e times = below-eight (λ p. getD (timesOf (requestOf e times)) p 0 ≡ getD times p 0) refl refl refl refl refl refl refl refl
 
 -- what a PFC frame that asks T does at A: each of the timers is T
 pub effect-sets : (w : Watch) (head : Head) (f : Frame) (p : ℕ) → SoundWatch w → head .enabled ≡ w .settings .enabled → Enabled w p →

@@ -16,7 +16,8 @@ use Rattle.moments.proofs.Reached.{NotPast}
 use Rattle.rooms.specs.declared.Room.{Room}
 use Rattle.settings.specs.Settings.{isEnabled}
 use Rattle.recorder.specs.declared.Watch.{Watch}
-use Rattle.recorder.specs.Watching.{withMark, withRoom, arrivedWith, arrivedAt, startedAt}
+use Rattle.marks.specs.Marks.{withMark, startedAt}
+use Rattle.recorder.specs.Watching.{withRoom, arrivedWith, arrivedAt}
 use Rattle.records.specs.declared.Record.{Record}
 use Rattle.records.specs.declared.Record.the-variants as record'
 use Rattle.bench_meaning.specs.State.{Frame, State, priorityOf, lengthOf}

@@ -1,6 +1,5 @@
 -- What holds in every state that a run reaches: the facts of the link, and those of each enabled priority. It holds at the start.
 use Prim.Native.Nat.{ℕ}
-use mathlib.Core.Bool.{Bool}
 use mathlib.Core.Path.{_≡_, refl, sym, subst}
 use native.Mathlib.Omega.{arith}
 use lib.ListN.{length}
@@ -12,18 +11,22 @@ use Rattle.moments.specs.Moments.{dueOn}
 use Rattle.head.specs.Timers.{timer}
 use Rattle.rooms.specs.declared.Room.{Room}
 use Rattle.recorder.specs.declared.Watch.{Watch}
-use Rattle.recorder.specs.Watching.{roomAt, someWanted, differ, withMark, withRoom}
-use Rattle.recorder.proofs.RoomLaws.{EightRooms, eight-fresh, eight-put, some-wanted, same-wanted, fresh-room, room-then}
+use Rattle.marks.specs.Marks.{someWanted}
+use Rattle.recorder.specs.Watching.{Recorder, roomAt, limitsOf}
+use Rattle.marks.proofs.MarkLaws.{some-wanted}
+use Rattle.recorder.proofs.RoomLaws.{EightRooms, eight-fresh, fresh-room}
 use Rattle.bench_meaning.specs.State.{State, empty, withRecorder}
 use Rattle.bench_meaning.specs.Step.{oldestEnd}
 use Rattle.no_loss.proofs.Link.{Marked, Link}
 use Rattle.no_loss.proofs.LinkSteps.{marked-one, link-marked}
 use Rattle.no_loss.proofs.Group.{Group}
 use Rattle.no_loss.proofs.Watches.{SoundWatch, termsOf, Enabled, one-of-eight}
-use Rattle.no_loss.proofs.Own.{Own, own-on}
+use Rattle.rooms.proofs.Moves.{Shown, shown}
+use Rattle.no_loss.proofs.Moving.{shownAt, Moving}
+use Rattle.no_loss.proofs.Own.{Own}
 
--- the facts of a priority in a state, with a due moment and a room of its own
-abbrev pub OwnWith : Watch → State → ℕ → Moment → Room → Type 0
+-- the facts of a priority in a state, with a due moment and what its group shows of its room
+abbrev pub OwnWith : Watch → State → ℕ → Moment → Shown → Type 0
 OwnWith w s p due room = Own w p (s .clock) (timer (s .head)) due (s .recorder .marks .last) (s .toB .row) (s .toB .free) (s .toA .row) room
 
 -- the invariant
@@ -33,7 +36,7 @@ pub record Inv (w : Watch) (s : State) : Type 0 where
   pub rooms : EightRooms (s .recorder)
   pub timers : length (s .head .timers) ≡ 8
   pub enabled : s .head .enabled ≡ w .settings .enabled
-  pub own : (p : ℕ) → Enabled w p → OwnWith w s p (s .recorder .marks .due) (roomAt (s .recorder) p)
+  pub own : (p : ℕ) → Enabled w p → OwnWith w s p (s .recorder .marks .due) (shownAt w (s .recorder) p)
 
 -- where a priority is wanted, the refresh is looked after
 pub marked-at : {w : Watch} {s : State} (p : ℕ) → Enabled w p → Inv w s →
@@ -41,32 +44,29 @@ pub marked-at : {w : Watch} {s : State} (p : ℕ) → Enabled w p → Inv w s �
 marked-at {w} {s} p on inv =
     marked-one (roomAt (s .recorder) p .wanted) (some-wanted (s .recorder .marks) (inv .rooms .wanted) p (one-of-eight w p on)) (inv .link .marked)
 
--- one priority's room changes, and its mark with it or not: the other priorities keep their facts
-pub inv-marked : {w : Watch} (s : State) (q : ℕ) (room : Room) → Inv w s → Enabled w q →
-    OwnWith w s q (dueOn (differ (roomAt (s .recorder) q .wanted) (room .wanted)) (s .clock) (s .recorder .marks .due)) room →
-    Inv w (withRecorder s (withRoom (s .recorder) q room (s .clock)))
-unfolding withRoom withMark
-inv-marked {w} s q room inv on own =
+-- the recorder moves, and each enabled priority keeps its facts
+pub inv-moved : {w : Watch} {Arrives : ℕ → Type 0} {octets : ℕ → ℕ} (s : State) (r' : Recorder)
+    (m : Moving w (s .clock) (s .recorder) Arrives octets r') → Inv w s →
+    ((p : ℕ) → Enabled w p → OwnWith w s p (dueOn (m .changed) (s .clock) (s .recorder .marks .due)) (shownAt w r' p)) → Inv w (withRecorder s r')
+inv-moved {w} s r' m inv own =
     record {
-      link = link-marked changed _ (same-wanted (s .recorder) q room (s .clock) (inv .rooms) (one-of-eight w q on)) (inv .link);
-      rooms = eight-put (s .recorder) q room (s .clock) (inv .rooms);
+      link = as-marked (λ due last. Link (termsOf w) (s .clock) (s .toB .free) (s .toA .free) due last (someWanted (r' .marks)) (s .toB .row) (s .toA .row))
+          (link-marked (m .changed) _ (m .same) (inv .link));
+      rooms = m .rooms;
       timers = inv .timers;
       enabled = inv .enabled;
-      own = λ p there.
-          room-then (s .recorder) q room (s .clock) (inv .rooms) (OwnWith w s p due) p (one-of-eight w p there)
-          (λ same. subst (λ (k : ℕ). OwnWith w s k due room) (sym same) own)
-          (λ apart. own-on changed (marked-at p there inv) (inv .own p there));
+      own = λ p on.
+          as-marked (λ due last. Own w p (s .clock) (timer (s .head)) due last (s .toB .row) (s .toB .free) (s .toA .row) (shownAt w r' p)) (own p on);
     }
   where
-    changed : Bool
-    changed = differ (roomAt (s .recorder) q .wanted) (room .wanted)
-
-    due : Moment
-    due = dueOn changed (s .clock) (s .recorder .marks .due)
+    -- what holds of the marks as they then are
+    as-marked : (P : Moment → Moment → Type 0) → P (dueOn (m .changed) (s .clock) (s .recorder .marks .due)) (s .recorder .marks .last) →
+        P (r' .marks .due) (r' .marks .last)
+    as-marked P h = subst (λ (d : Moment). P d (r' .marks .last)) (sym (m .due)) (subst (P _) (sym (m .last)) h)
 
 -- "Time starts at 0, buffers empty."
 pub inv-empty : (w : Watch) → SoundWatch w → Inv w (empty w)
-unfolding some pick oldestEnd
+unfolding some pick oldestEnd limitsOf
 inv-empty w sound =
     record {
       link =
@@ -80,6 +80,6 @@ inv-empty w sound =
       timers = refl;
       enabled = refl;
       own = λ p on.
-          subst (OwnWith w (empty w) p Never) (sym (fresh-room p (one-of-eight w p on)))
+          subst (λ (x : Room). OwnWith w (empty w) p Never (shown (limitsOf w p) x)) (sym (fresh-room p (one-of-eight w p on)))
           (record { group = Group.calm (omega (arith, sound .enough p on)); dropped = refl; worst = omega arith });
     }

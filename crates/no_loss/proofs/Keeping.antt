@@ -1,10 +1,13 @@
 -- Every kind of record that is accepted keeps the invariant.
 use Prim.Native.Nat.{ℕ, _+_, _-_, _/_, _≤_}
 use mathlib.Core.Bool.{Bool, true, false}
-use mathlib.Core.Path.{_≡_, refl, ap, _∙_, subst}
+use mathlib.Core.Path.{_≡_, refl, sym, ap, _∙_, subst}
 use mathlib.Core.List.{List, [], _∷_}
+use native.Mathlib.Nat.{le-of-eq}
 use native.Mathlib.Omega.{arith}
+use borrow.Author.Tests.{eq-eqb}
 use Rattle.ground.specs.Pick.{pick}
+use Rattle.ground.proofs.Pick.{pick-yes}
 use Rattle.units.specs.Units.{wireTime, pfcTime}
 use Rattle.moments.specs.declared.Moment.{Moment}
 use Rattle.moments.specs.declared.Moment.the-variants.{Never, At}
@@ -13,13 +16,11 @@ use Rattle.moments.proofs.Reached.{NotPast}
 use Rattle.frame.specs.Read.{verdict}
 use Rattle.head.specs.Timers.{timer}
 use Rattle.head.proofs.Timers.{timer-passed}
-use Rattle.rooms.specs.declared.Room.{Room}
-use Rattle.rooms.specs.Room.{arrivedIn, takenFrom}
-use Rattle.settings.specs.Settings.{isEnabled}
 use Rattle.recorder.specs.declared.Watch.{Watch}
-use Rattle.recorder.specs.Watching.{roomAt, limitsOf, someWanted, refreshOf, withRoom, arrivedWith, arrivedAt, takenWith, takenAt, startedAt, withDue}
-use Rattle.recorder.proofs.RoomLaws.{some-wanted}
-use Rattle.bench_meaning.specs.State.{Frame, State, dataOctets, priorityOf, lengthOf, withRecorder, withToB, withToA}
+use Rattle.marks.specs.Marks.{someWanted, refreshOf, startedAt, withDue}
+use Rattle.marks.proofs.MarkLaws.{some-wanted}
+use Rattle.recorder.specs.Watching.{roomAt}
+use Rattle.bench_meaning.specs.State.{Frame, State, dataOctets, priorityOf, lengthOf, withToB, withToA}
 use Rattle.bench_meaning.specs.Step
 use Rattle.bench_meaning.specs.Step.{addressA, leaving, oldestEnd, dueThen, effectOf, pfcNow}
 use Rattle.bench_meaning.specs.Step.{waited, dataStarted, arrived, otherStarted, pfcStarted, tookEffect, octetsTaken}
@@ -31,8 +32,9 @@ use Rattle.no_loss.proofs.GroupSteps.{group-passed, group-sent, group-s
 use Rattle.no_loss.proofs.Refusals.{MayWait, MayStartData, MayStartOther, MayStartPfc, MayTake}
 use Rattle.no_loss.proofs.Watches.{SoundWatch, termsOf, Enabled, one-of-eight, Shares, sharing}
 use Rattle.no_loss.proofs.Asking.{asks-now, effect-sets, effect-enabled, effect-eight}
-use Rattle.no_loss.proofs.Own.{own-with, own-passed-by, own-arrived, own-took}
-use Rattle.no_loss.proofs.Invariant.{Inv, marked-at, inv-marked}
+use Rattle.no_loss.proofs.Moving.{arrived-moves, taken-moves}
+use Rattle.no_loss.proofs.Own.{own-with, own-passed-by, own-brought, own-moved}
+use Rattle.no_loss.proofs.Invariant.{Inv, marked-at, inv-moved}
 
 -- the state with another row of frames under way to B, and to A
 abbrev pub rowToB : State → List Frame → State
@@ -153,10 +155,11 @@ module _ (w : Watch) (sound : SoundWatch w) (s : State) where
 
   -- kind 07
   pub kept-take : (priority octets : ℕ) → MayTake w (s .recorder) priority octets → Inv w s → Inv w (octetsTaken w s priority octets)
-  unfolding octetsTaken takenAt takenWith
+  unfolding octetsTaken
   kept-take priority octets may inv =
-      inv-marked s priority (takenFrom (limitsOf w priority) (roomAt (s .recorder) priority) octets) inv (may .enabled)
-      (own-took octets sound (marked-at priority (may .enabled) inv) (inv .own priority (may .enabled)))
+      let moving = taken-moves w (s .clock) (s .recorder) (inv .rooms) priority octets (may .enabled) in
+      inv-moved s _ moving inv
+      (λ p on. own-moved (moving .changed) sound (marked-at p on inv) (λ none b. absurd none) (moving .moves p on) (inv .own p on))
 
   -- kind 03: the frame leaves the row, ..
   kept-left : (f : Frame) (rest : List Frame) → Inv w (rowToB s (f ∷ rest)) → Inv w (rowToB s rest)
@@ -169,21 +172,19 @@ module _ (w : Watch) (sound : SoundWatch w) (s : State) where
         own = λ p on. own-passed-by (inv .own p on);
       }
 
-  -- .. and its priority's room changes, if it is enabled
+  -- .. and brings its octets to those that share its priority's room
   pub kept-arrive : (row : List Frame) → Ended row (s .clock) → Inv w (rowToB s row) → Inv w (arrived w (rowToB s row) row)
-  unfolding arrived arrivedAt arrivedWith oldestEnd pick
+  unfolding arrived oldestEnd
   kept-arrive [] ended inv = absurd ended
-  kept-arrive (f ∷ rest) ended inv = go (isEnabled (w .settings .enabled) (priorityOf f)) refl
-    where
-      room : Room
-      room = arrivedIn (limitsOf w (priorityOf f)) (roomAt (s .recorder) (priorityOf f)) (lengthOf f)
-
-      go : (on : Bool) → isEnabled (w .settings .enabled) (priorityOf f) ≡ on →
-          Inv w (withRecorder (rowToB s rest) (pick on (withRoom (s .recorder) (priorityOf f) room (s .clock)) (s .recorder)))
-      go false e = kept-left f rest inv
-      go true e =
-          inv-marked (rowToB s rest) (priorityOf f) room (kept-left f rest inv) e
-          (own-arrived sound refl (inv .link .toB) (marked-at (priorityOf f) e inv) (inv .own (priorityOf f) e))
+  kept-arrive (f ∷ rest) ended inv =
+      let moving = arrived-moves w (s .clock) (s .recorder) (inv .rooms) (priorityOf f) (lengthOf f) in
+      inv-moved (rowToB s rest) _ moving (kept-left f rest inv)
+      (λ p on.
+      own-moved (moving .changed) sound (marked-at p on inv)
+      (λ mine b.
+      own-brought (moving .changed) sound (marked-at p on inv) (moving .noticed p on) (inv .link .toB) mine
+      (pick-yes (lengthOf f) 0 (eq-eqb (priorityOf f) p mine)) b (inv .own p on))
+      (moving .moves p on) (own-passed-by (inv .own p on)))
 
   -- kind 06
   pub kept-take-effect : (row : List Frame) → Ended row (s .clock) → Inv w (rowToA s row) → Inv w (tookEffect w (rowToA s row) row)
@@ -198,5 +199,6 @@ module _ (w : Watch) (sound : SoundWatch w) (s : State) where
         enabled = effect-enabled read (s .head) ∙ inv .enabled;
         own = λ p on.
             own-with (inv .own p on)
-            (group-took (timer (effectOf read (s .head))) (sound .terms) ended (effect-sets w (s .head) f p sound (inv .enabled) on) (inv .own p on .group));
+            (group-took (timer (effectOf read (s .head))) (sound .terms) ended
+            (λ asks n mine. le-of-eq (sym (effect-sets w (s .head) f p sound (inv .enabled) on asks n mine))) (inv .own p on .group));
       }

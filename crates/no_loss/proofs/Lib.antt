@@ -1,5 +1,9 @@
--- The theorems about whole runs (`NoLoss`, `Program`, `Progress`), and what they stand on.
+-- The theorems about whole runs (`NoLoss`, `Program`, `Contract`, `Account`, `Calculated`, `Oldest`, `Calls`,
+-- `PermittedCalls`, `Progress`), and what they stand on.
+pub mod Account
 pub mod Asking
+pub mod Calculated
+pub mod Calls
 pub mod Clearing
 pub mod Contract
 pub mod Counting
@@ -10,10 +14,12 @@ pub mod Keeping
 pub mod Link
 pub mod LinkSteps
 pub mod Modes
+pub mod Moving
 pub mod NearlyMet
 pub mod NoLoss
+pub mod Oldest
 pub mod Own
-pub mod Passing
+pub mod PermittedCalls
 pub mod Program
 pub mod Progress
 pub mod Refusals

@@ -156,7 +156,7 @@ module _ {c : Terms} {t aFree bFree : ℕ} {due last : Moment} {some : Bool} whe
         marked = record { due-time = omega (arith, sound .least); refreshed = refreshed-by-start c t some (sound .some-refresh); started = omega arith };
       }
 
-  -- kind 06
+  -- kind 06, or the frame is lost: the oldest PFC frame leaves the row
   pub link-took : {f : Frame} {dataRow rest : List Frame} → Link c t aFree bFree due last some dataRow (f ∷ rest) →
       Link c t aFree bFree due last some dataRow rest
   link-took l =

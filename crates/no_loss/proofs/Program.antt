@@ -1,10 +1,10 @@
--- No frame is lost in a run over an input. Whatever octets it is of, if its report says that a priority is enabled, then the report's
--- count of that priority's dropped octets is 0, and its worst is at most the headroom of the settings that the input begins with. It is
--- for whoever reads the program's lines and relies on B's rooms. It assumes that the input is made of octets, each below 256, and nothing
--- else: an input that is too long, or whose settings are missing, cut short or refused, reports no priority as enabled.
--- The chain: the octets of the input → `runOf` → `after` some list of records (`run-reaches`; its proof takes those that were accepted)
--- → `no-loss` of `NoLoss`, which speaks of every list.
-use Prim.Native.Nat.{ℕ, zero, suc, _+_, _<_, _≤_}
+-- No frame is lost in a run over an input. Whatever octets it is of, its report is of the input's own settings, its steps are the records
+-- that the run accepts (`acceptedIn`), none of them is refused, and for each priority that it reports as enabled dropped and worst are the
+-- sums over exactly those records, dropped is 0, worst is at most the headroom, and what arrived is what is held or was taken. It is for
+-- whoever reads the program's lines and relies on B's rooms. It assumes that the input is made of octets, each below 256, and nothing
+-- else: an input that is too long, or whose settings are missing, cut short or refused, accepts no record and reports no priority as enabled.
+-- The chain: the octets of the input → `runOf` → the state after `acceptedIn` (`run-accepts`) → `no-loss` of `NoLoss` and `adds-up` of `Account`.
+use Prim.Native.Nat.{ℕ, zero, suc, _+_, _<_}
 use mathlib.Core.Bool.{Bool, true, false}
 use mathlib.Core.Path.{_≡_, refl, sym, ap, subst, _∙_}
 use mathlib.Core.List.{List, [], _∷_}
@@ -16,11 +16,10 @@ use Rattle.ground.specs.Pick.{pick}
 use Rattle.ground.specs.Eight.{eight}
 use Rattle.ground.proofs.Pick.{pick-yes}
 use Rattle.ground.proofs.Eight.{getD-eight}
-use Rattle.room_to_keep.specs.declared.Kept.{Kept}
+use Rattle.octets.specs.Numbers.{octetAt}
 use Rattle.settings.specs.declared.Settings.{Settings}
-use Rattle.settings.specs.declared.Settling.{Settling}
 use Rattle.settings.specs.declared.Settling.the-variants.{Accepted, Refused}
-use Rattle.settings.specs.Settings.{isEnabled, headroomOf, settingsRefusal, settling}
+use Rattle.settings.specs.Settings.{isEnabled, settingsRefusal, settling}
 use Rattle.settings.proofs.Enabled.{none-enabled}
 use Rattle.settings.proofs.SettingsLaws.{enabled-below}
 use Rattle.recorder.specs.declared.Watch.{Watch}
@@ -30,108 +29,105 @@ use Rattle.records.specs.Records.{recordLength, decoded}
 use Rattle.bench_meaning.specs.declared.Report.{Report}
 use Rattle.bench_meaning.specs.State.{State, empty}
 use Rattle.bench_meaning.specs.Step.{refusalOf, nextOf, stepOf}
-use Rattle.bench_meaning.specs.Run.{settingsIn, runFrom, followOf, watchWith, settledBy, runOf}
-use Rattle.no_loss.specs.Runs.{watchOf, after}
+use Rattle.bench_meaning.specs.Run.{settingsIn, reportOf, runFrom, followOf, inputRefusal, refusedReport, settledBy, runOf}
+use Rattle.no_loss.specs.Runs.{watchOf, after, AllAccepted}
+use Rattle.no_loss.specs.Accepted.{Octets, begins, acceptedFrom, acceptedAfter, acceptedIn, enabledIn, LosesNothing, LosesNothingOf}
 use Rattle.no_loss.proofs.NoLoss.{no-loss}
+use Rattle.no_loss.proofs.Account.{adds-up}
 
--- a report tells what the rooms of a state count
-pub record TellsOf (report : Report) (s : State) : Type 0 where
-  pub dropped : report .dropped ≡ eight (λ n. roomAt (s .recorder) n .dropped)
-  pub worst : report .worst ≡ eight (λ n. roomAt (s .recorder) n .worst)
+-- the counts of a report are those of the rooms of a state
+record CountsOf (report : Report) (s : State) : Type 0 where
+  held : report .held ≡ eight (λ n. roomAt (s .recorder) n .held)
+  dropped : report .dropped ≡ eight (λ n. roomAt (s .recorder) n .dropped)
+  worst : report .worst ≡ eight (λ n. roomAt (s .recorder) n .worst)
 
--- it tells of the state after some list of records
-abbrev After : Watch → State → Report → Type 0
-After w s report = (records : List Record) × TellsOf report (after w s records)
+-- a report tells of records from a state on: it counts them beside those before, none of them is refused, and its counts are those after them
+record TellsOf (w : Watch) (s : State) (steps : ℕ) (records : List Record) (report : Report) : Type 0 where
+  enabled-is : report .enabled ≡ w .settings .enabled
+  steps-are : report .steps ≡ steps + length records
+  none-refused : AllAccepted w s records
+  counts : CountsOf report (after w s records)
+
+-- where a run ends it takes no more records
+ended : (w : Watch) (s : State) (steps refusal at : ℕ) → TellsOf w s steps [] (reportOf (w .settings .enabled) s steps refusal at)
+unfolding after AllAccepted
+ended w s steps refusal at =
+    record { enabled-is = refl; steps-are = omega arith; none-refused = tt; counts = record { held = refl; dropped = refl; worst = refl } }
 
 -- one record more: an accepted one goes before those that follow, a refused one ends the run
-one-more : (w : Watch) (s : State) (asked : Record) (accepted : Bool) (follows ends : Report) → eqb (refusalOf w s asked) 0 ≡ accepted →
-    TellsOf ends s → After w (nextOf w s asked) follows → After w s (pick accepted follows ends)
-unfolding after stepOf pick
-one-more w s asked true follows ends e same then =
-    (asked ∷ then .0, subst (λ (next : State). TellsOf follows (after w next (then .0))) (sym (pick-yes _ _ e)) (then .1))
-one-more w s asked false follows ends e same then = ([], same)
+one-more : (w : Watch) (s : State) (steps : ℕ) (asked : Record) (accepted : Bool) (records : List Record) (follows ends : Report) →
+    eqb (refusalOf w s asked) 0 ≡ accepted → TellsOf w s steps [] ends → TellsOf w (nextOf w s asked) (steps + 1) records follows →
+    TellsOf w s steps (pick accepted (asked ∷ records) []) (pick accepted follows ends)
+unfolding after AllAccepted stepOf pick
+one-more w s steps asked false records follows ends e same then = same
+one-more w s steps asked true records follows ends e same then =
+    let next = pick-yes (nextOf w s asked) s e in
+    record {
+      enabled-is = then .enabled-is;
+      steps-are = omega (arith, then .steps-are);
+      none-refused = (eqb-true _ _ e, subst (λ (s : State). AllAccepted w s records) (sym next) (then .none-refused));
+      counts = subst (λ (s : State). CountsOf follows (after w s records)) (sym next) (then .counts);
+    }
 
--- what a run reports is told of the state after some list of records: the ones that it accepted
-pub run-reaches : (fuel : ℕ) (w : Watch) (s : State) (steps : ℕ) (octets : List ℕ) →
-    (records : List Record) × TellsOf (runFrom fuel w s steps octets) (after w s records)
-unfolding runFrom after pick
-run-reaches zero w s steps octets = ([], record { dropped = refl; worst = refl })
-run-reaches (suc fuel) w s steps [] = ([], record { dropped = refl; worst = refl })
-run-reaches (suc fuel) w s steps (kind ∷ rest) =
-    one-more w s (decoded (kind ∷ rest)) _ _ _ refl (record { dropped = refl; worst = refl })
-    (run-reaches fuel w (nextOf w s (decoded (kind ∷ rest))) (steps + 1) (drop (recordLength kind) (kind ∷ rest)))
-
--- either of two reports has the enabled octet that both have
-either-enabled : (accepted : Bool) (follows ends : Report) (enabled : ℕ) → follows .enabled ≡ enabled → ends .enabled ≡ enabled →
-    pick accepted follows ends .enabled ≡ enabled
-unfolding pick
-either-enabled true follows ends enabled p q = p
-either-enabled false follows ends enabled p q = q
-
--- a run reports the enabled octet of its settings
-pub run-enabled : (fuel : ℕ) (w : Watch) (s : State) (steps : ℕ) (octets : List ℕ) → runFrom fuel w s steps octets .enabled ≡ w .settings .enabled
-unfolding runFrom pick
-run-enabled zero w s steps octets = refl
-run-enabled (suc fuel) w s steps [] = refl
-run-enabled (suc fuel) w s steps (kind ∷ rest) =
-    either-enabled (eqb (refusalOf w s (decoded (kind ∷ rest))) 0) _ _ _
-    (run-enabled fuel w (nextOf w s (decoded (kind ∷ rest))) (steps + 1) (drop (recordLength kind) (kind ∷ rest)))
-    refl
-
--- accepted settings are not refused, and carry their own sums
-settled : (s : Settings) (room : Kept) → settling s ≡ Accepted room → (settingsRefusal s ≡ 0) × (room ≡ watchOf s .kept)
-unfolding settling pick
-settled s room = go (eqb (settingsRefusal s) 0) refl
-  where
-    go : (b : Bool) → eqb (settingsRefusal s) 0 ≡ b → pick b (Accepted (watchOf s .kept)) (Refused (settingsRefusal s)) ≡ Accepted room →
-        (settingsRefusal s ≡ 0) × (room ≡ watchOf s .kept)
-    go true e told = (eqb-true _ _ e, cc)
-    go false e told = let z : _≡_ {A = ℕ} 0 1 = cc in absurd (omega arith)
-
--- if a report says that a priority is enabled, nothing of it was dropped and it had no wanted span of more than the headroom
-abbrev pub Keeps : Settings → ℕ → Report → Type 0
-Keeps s priority report =
-    isEnabled (report .enabled) priority ≡ true → (getD (report .dropped) priority 0 ≡ 0) × (getD (report .worst) priority 0 ≤ headroomOf s)
+-- what a run reports is told of the records that it accepts
+run-accepts : (fuel : ℕ) (w : Watch) (s : State) (steps : ℕ) (octets : List ℕ) →
+    TellsOf w s steps (acceptedFrom fuel w s octets) (runFrom fuel w s steps octets)
+unfolding runFrom acceptedFrom
+run-accepts zero w s steps octets = ended w s steps 0 0
+run-accepts (suc fuel) w s steps [] = ended w s steps 0 0
+run-accepts (suc fuel) w s steps (kind ∷ rest) =
+    one-more w s steps (decoded (kind ∷ rest)) _ _ _ _ refl (ended w s steps _ _)
+    (run-accepts fuel w (nextOf w s (decoded (kind ∷ rest))) (steps + 1) (drop (recordLength kind) (kind ∷ rest)))
 
 -- the records after accepted settings
-follow-keeps : (s : Settings) → settingsRefusal s ≡ 0 → s .pause < 65536 → (priority : ℕ) (octets : List ℕ) →
-    Keeps s priority (followOf (watchOf s) octets)
-follow-keeps s accepted fits priority octets told =
+follow-keeps : (s : Settings) → settingsRefusal s ≡ 0 → s .pause < 65536 → (octets : List ℕ) →
+    LosesNothing s (s .enabled) (acceptedAfter s octets) (followOf (watchOf s) octets)
+follow-keeps s accepted fits octets =
     let w = watchOf s in
-    let then = run-reaches (length octets) w (empty w) 0 octets in
-    let on = subst (λ (enabled : ℕ). isEnabled enabled priority ≡ true) (run-enabled (length octets) w (empty w) 0 octets) told in
-    let kept = no-loss s accepted fits (then .0) priority on in
-    let below = enabled-below (s .enabled) priority on in
-    let rooms = after w (empty w) (then .0) .recorder in
-    let dropped = ap (λ (l : List ℕ). getD l priority 0) (then .1 .dropped) ∙ getD-eight (λ n. roomAt rooms n .dropped) 0 priority below in
-    let worst = ap (λ (l : List ℕ). getD l priority 0) (then .1 .worst) ∙ getD-eight (λ n. roomAt rooms n .worst) 0 priority below in
-    (dropped ∙ kept .none-dropped, rw worst (kept .within-headroom))
+    let then = run-accepts (length octets) w (empty w) 0 octets in
+    record {
+      enabled-is = then .enabled-is;
+      steps-are = omega (arith, then .steps-are);
+      none-refused = then .none-refused;
+      keeps = λ priority told.
+          let on = subst (λ (enabled : ℕ). isEnabled enabled priority ≡ true) (then .enabled-is) told in
+          let records = acceptedAfter s octets in
+          let kept = no-loss s accepted fits records priority on in
+          let account = adds-up s accepted fits records priority on in
+          let rooms = after w (empty w) records .recorder in
+          -- the report's counts of the priority
+          let below = enabled-below (s .enabled) priority on in
+          let counts = then .counts in
+          let held = ap (λ (l : List ℕ). getD l priority 0) (counts .held) ∙ getD-eight (λ n. roomAt rooms n .held) 0 priority below in
+          let dropped = ap (λ (l : List ℕ). getD l priority 0) (counts .dropped) ∙ getD-eight (λ n. roomAt rooms n .dropped) 0 priority below in
+          let worst = ap (λ (l : List ℕ). getD l priority 0) (counts .worst) ∙ getD-eight (λ n. roomAt rooms n .worst) 0 priority below in
+          record {
+            dropped-counted = dropped ∙ kept .dropped-counted;
+            worst-counted = worst ∙ kept .worst-counted;
+            none-dropped = dropped ∙ kept .none-dropped;
+            within-headroom = rw worst (kept .within-headroom);
+            arrived-is = omega (arith, held, account .arrived-is, kept .dropped-counted, kept .none-dropped);
+          };
+    }
 
--- an input whose settings are whole
-settled-keeps : (input : List ℕ) → settingsIn input .pause < 65536 → (priority : ℕ) (answer : Settling) → settling (settingsIn input) ≡ answer →
-    Keeps (settingsIn input) priority (settledBy answer input)
-unfolding settledBy
-settled-keeps input fits priority (Refused number) e = λ on. absurd (none-enabled priority on)
-settled-keeps input fits priority (Accepted room) e =
-    let own = settled (settingsIn input) room e in
-    subst
-    (λ (k : Kept). Keeps (settingsIn input) priority (followOf (watchWith (settingsIn input) k) (drop 58 input)))
-    (sym (own .1))
-    (follow-keeps (settingsIn input) (own .0) fits priority (drop 58 input))
+-- a run that does not begin reports no record and no priority
+begins-not : (s : Settings) (number : ℕ) → LosesNothing s 0 [] (refusedReport number)
+unfolding AllAccepted
+begins-not s number =
+    record { enabled-is = refl; steps-are = refl; none-refused = tt; keeps = λ priority on. absurd (none-enabled priority on) }
 
--- either of two reports keeps what both keep
-either-keeps : (s : Settings) (priority : ℕ) (test : Bool) (this that : Report) → Keeps s priority this → Keeps s priority that →
-    Keeps s priority (pick test this that)
-unfolding pick
-either-keeps s priority true this that p q = p
-either-keeps s priority false this that p q = q
+-- 45, 44 or 31; else the settings decide
+pub nothing-lost-in-a-run : (input : List ℕ) → Octets input → LosesNothingOf input (runOf input)
+unfolding runOf settling begins acceptedIn enabledIn pick settledBy
+nothing-lost-in-a-run input octets = go (eqb (inputRefusal (octetAt input 0) (length input)) 0) (eqb (settingsRefusal s) 0) refl
+  where
+    s : Settings
+    s = settingsIn input
 
--- too long: 45; no whole settings first: 44 or 31; else the settings decide
-pub nothing-lost-in-a-run : (input : List ℕ) → ((n : ℕ) → getD input n 0 < 256) → (priority : ℕ) → Keeps (settingsIn input) priority (runOf input)
-unfolding runOf
-nothing-lost-in-a-run input octets priority =
-    let s = settingsIn input in
-    either-keeps s priority _ _ _ (λ on. absurd (none-enabled priority on))
-    (either-keeps s priority _ _ _
-    (settled-keeps input (omega (arith, octets 16, octets 17)) priority (settling s) refl)
-    (λ on. absurd (none-enabled priority on)))
+    go : (whole accepted : Bool) → eqb (settingsRefusal s) 0 ≡ accepted →
+        LosesNothing s (pick (pick whole accepted false) (s .enabled) 0) (pick (pick whole accepted false) (acceptedAfter s (drop 58 input)) [])
+        (pick whole (settledBy (pick accepted (Accepted (watchOf s .kept)) (Refused (settingsRefusal s))) input)
+        (refusedReport (inputRefusal (octetAt input 0) (length input))))
+    go false accepted e = begins-not s _
+    go true false e = begins-not s _
+    go true true e = follow-keeps s (eqb-true _ _ e) (omega (arith, octets 16, octets 17)) (drop 58 input)

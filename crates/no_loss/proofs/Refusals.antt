@@ -4,8 +4,9 @@ use Prim.Native.Nat.{ℕ, _+_, _^_, _≤_, _<_}
 use mathlib.Core.Bool.{true, false}
 use mathlib.Core.Path.{_≡_, _∙_}
 use native.Mathlib.Omega.{arith}
-use borrow.Author.Tests.{ltb-false, leb-false, le-ltb, lt-leb}
+use borrow.Author.Tests.{ltb-false, leb-false, le-ltb, lt-leb, not-false}
 use lib.ListN.{length}
+use Rattle.ground.specs.First.{firstOf}
 use Rattle.ground.proofs.Pick.{pick-no}
 use Rattle.moments.specs.Moments.{at}
 use Rattle.moments.proofs.Reached.{NotPast, reached, not-ahead, not-past, not-past-due, is-at, not-never}
@@ -16,7 +17,7 @@ use Rattle.records.specs.declared.Record.the-variants as record'
 use Rattle.decisions.specs.Chains.{lengthOutside, waitNumber, startDataNumber, arriveNumber, startOtherNumber, startPfcNumber}
 use Rattle.bench_meaning.specs.State.{Direction, State}
 use Rattle.bench_meaning.specs.Step.{noneEnded, dueThen, overrun, refusalOf}
-use Rattle.no_loss.proofs.Passing.{passed, held, neither}
+use Rattle.ground.proofs.Passing.{passed, neither}
 use Rattle.no_loss.proofs.Rows.{InTime, Ended}
 use Rattle.no_loss.proofs.Watches.{Enabled}
 
@@ -34,7 +35,7 @@ pub record MayWait (w : Watch) (s : State) (n : ℕ) : Type 0 where
 
 module _ (w : Watch) (s : State) (n : ℕ) where
   pub may-wait : refusalOf w s (record'.Wait n) ≡ 0 → MayWait w s n
-  unfolding refusalOf waitNumber overrun
+  unfolding refusalOf waitNumber overrun firstOf
   may-wait e =
       let one = passed _ 41 _ (omega arith) e in
       let two = passed _ 40 0 (omega arith) (one .1) in
@@ -48,7 +49,7 @@ module _ (w : Watch) (s : State) (n : ℕ) where
       }
 
   pub wait-accepted : MayWait w s n → refusalOf w s (record'.Wait n) ≡ 0
-  unfolding refusalOf waitNumber overrun
+  unfolding refusalOf waitNumber overrun firstOf
   wait-accepted may =
       let others = pick-no true _ (not-past-due _ _ _ (may .pfc-time)) ∙ not-past-due _ _ _ (may .due-time) in
       pick-no 41 _ (le-ltb _ _ (may .time)) ∙ pick-no 40 0 (pick-no true _ (not-past-due _ _ _ (may .data-time)) ∙ others)
@@ -61,7 +62,7 @@ pub record MayStartData (w : Watch) (s : State) (priority size : ℕ) : Type 0 w
   pub not-paused : timer (s .head) priority ≤ 0
 
 pub may-start-data : (w : Watch) (s : State) (priority size : ℕ) → refusalOf w s (record'.StartData priority size) ≡ 0 → MayStartData w s priority size
-unfolding refusalOf startDataNumber
+unfolding refusalOf startDataNumber firstOf
 may-start-data w s priority size e =
     let one = passed _ 32 _ (omega arith) e in
     let two = passed _ 33 _ (omega arith) (one .1) in
@@ -76,11 +77,11 @@ may-start-data w s priority size e =
 
 -- kinds 03 and 06: not 37
 pub may-leave : (direction : Direction) (clock : ℕ) → arriveNumber (noneEnded direction clock) ≡ 0 → Ended (direction .row) clock
-unfolding arriveNumber
+unfolding arriveNumber firstOf
 may-leave direction clock e = reached _ clock (passed _ 37 0 (omega arith) e .0)
 
 pub leave-accepted : (direction : Direction) (clock : ℕ) → Ended (direction .row) clock → arriveNumber (noneEnded direction clock) ≡ 0
-unfolding arriveNumber
+unfolding arriveNumber firstOf
 leave-accepted direction clock h = pick-no 37 0 (not-ahead _ clock h)
 
 -- kind 04: none of 33, 34 and 38
@@ -90,7 +91,7 @@ pub record MayStartOther (w : Watch) (s : State) (size : ℕ) : Type 0 where
   pub in-time : NotPast (s .recorder .marks .due) (w .kept .generation .0) (s .clock)
 
 pub may-start-other : (w : Watch) (s : State) (size : ℕ) → refusalOf w s (record'.StartOther size) ≡ 0 → MayStartOther w s size
-unfolding refusalOf startOtherNumber
+unfolding refusalOf startOtherNumber firstOf
 may-start-other w s size e =
     let one = passed _ 33 _ (omega arith) e in
     let two = passed _ 34 _ (omega arith) (one .1) in
@@ -106,7 +107,7 @@ pub record MayStartPfc (s : State) : Type 0 where
 
 module _ (w : Watch) (s : State) where
   pub may-start-pfc : refusalOf w s record'.StartPfc ≡ 0 → MayStartPfc s
-  unfolding refusalOf startPfcNumber
+  unfolding refusalOf startPfcNumber firstOf
   may-start-pfc e =
       let one = passed _ 39 _ (omega arith) e in
       let two = passed _ 34 _ (omega arith) (one .1) in
@@ -115,7 +116,7 @@ module _ (w : Watch) (s : State) where
       record { since = first .0; due = first .1; idle = ltb-false _ _ (two .0); few = leb-false _ _ (three .0) }
 
   pub start-pfc-accepted : MayStartPfc s → refusalOf w s record'.StartPfc ≡ 0
-  unfolding refusalOf startPfcNumber
+  unfolding refusalOf startPfcNumber firstOf
   start-pfc-accepted may =
       pick-no 39 _ (not-never _ (may .since) (may .due)) ∙ pick-no 34 _ (le-ltb _ _ (may .idle)) ∙ pick-no 36 0 (lt-leb _ _ (may .few))
 
@@ -126,9 +127,9 @@ pub record MayTake (w : Watch) (r : Recorder) (priority octets : ℕ) : Type 0 w
   pub there : octets ≤ roomAt r priority .held
 
 pub may-take : (w : Watch) (r : Recorder) (priority octets : ℕ) → takingRefusal w r priority octets ≡ 0 → MayTake w r priority octets
-unfolding takingRefusal refusalWith
+unfolding takingRefusal refusalWith firstOf
 may-take w r priority octets e =
     let one = passed _ 32 _ (omega arith) e in
-    let two = held _ 43 _ (omega arith) (one .1) in
+    let two = passed _ 43 _ (omega arith) (one .1) in
     let three = passed _ 42 0 (omega arith) (two .1) in
-    record { known = ltb-false _ _ (one .0); enabled = two .0; there = ltb-false _ _ (three .0) }
+    record { known = ltb-false _ _ (one .0); enabled = not-false _ (two .0); there = ltb-false _ _ (three .0) }

@@ -1,5 +1,8 @@
 -- The numbers of the argument, in octet times: document 01's M, G, P, D, I and T, the sums W, O, H and K of them, and what accepted settings say of them.
-use Prim.Native.Nat.{ℕ, _+_, _*_, _≤_}
+use Prim.Native.Nat.{ℕ, suc, _+_, _-_, _*_, _≤_, _<_}
+use mathlib.Core.Path.{_≡_, ap, _∙_}
+use native.Mathlib.Nat.{suc-mul, mul-le-mul-right}
+use native.Mathlib.Omega.{arith}
 
 -- `losses` is k: how many PFC frames in a row may be lost; 0 in document 01
 pub record Terms : Type 0 where
@@ -27,6 +30,10 @@ K c = c .I + c .G + W c
 abbrev pub lost : Terms → ℕ
 lost c = c .losses * K c
 
+-- (k - j) * K: what is left of that once j PFC frames in a row have been lost
+unfoldable pub slack : Terms → ℕ → ℕ
+slack c j = (c .losses - j) * K c
+
 -- the headroom
 abbrev pub H : Terms → ℕ
 H c = O c + lost c + W c + c .D
@@ -39,3 +46,16 @@ pub record Sound (c : Terms) : Type 0 where
   pub holds : K c + c .P + 64 + lost c ≤ 64 * c .T
   pub small-refresh : c .I ≤ 4194304
   pub small-room : H c + c .M ≤ 1099511627776
+
+module _ (c : Terms) where
+  -- it is never more than all of it
+  pub slack-within : (j : ℕ) → slack c j ≤ lost c
+  unfolding slack
+  slack-within j = mul-le-mul-right (K c) (omega arith)
+
+  -- a loss that is allowed costs K
+  pub slack-lost : (j : ℕ) → j < c .losses → slack c j ≡ slack c (j + 1) + K c
+  unfolding slack
+  slack-lost j allowed =
+      let one-less : c .losses - j ≡ suc (c .losses - (j + 1)) = omega arith in
+      ap (λ (n : ℕ). n * K c) one-less ∙ suc-mul (c .losses - (j + 1)) (K c)

@@ -14,7 +14,7 @@ use Rattle.moments.specs.declared.Moment.the-variants.{Never, At}
 use Rattle.moments.specs.Moments.{dueBy}
 use Rattle.moments.proofs.Reached.{NotPast}
 use Rattle.recorder.specs.declared.Watch.{Watch}
-use Rattle.recorder.specs.Watching.{someWanted, withDue}
+use Rattle.marks.specs.Marks.{someWanted, withDue}
 use Rattle.bench_meaning.specs.State.{State}
 use Rattle.bench_meaning.specs.Step.{dueThen, marked, waited}
 use Rattle.no_loss.proofs.Terms.{Terms, W}

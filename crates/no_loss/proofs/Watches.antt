@@ -9,6 +9,7 @@ use Rattle.settings.proofs.Enabled.{enabled-set}
 use Rattle.settings.proofs.SettingsLaws.{enabled-below, accepted-facts}
 use Rattle.recorder.specs.declared.Watch.{Watch}
 use Rattle.recorder.specs.Watching.{limitsOf}
+use Rattle.recorder.proofs.RoomLaws.{marks-whole}
 use Rattle.no_loss.specs.Runs.{watchOf}
 use Rattle.no_loss.proofs.Terms.{Terms, Sound, W, H}
 
@@ -44,7 +45,7 @@ sharing P mine h = subst P (sym mine) h
 -- what accepted settings carry
 pub record SoundWatch (w : Watch) : Type 0 where
   pub terms : Sound (termsOf w)
-  pub headroom : w .kept .headroom .0 ≡ H (termsOf w)
+  pub mark : (p : ℕ) → limitsOf w p .mark ≡ H (termsOf w) + w .settings .largest
   pub wire : w .kept .wire .0 ≡ W (termsOf w)
   pub pause : w .settings .pause < 65536
   pub enough : (p : ℕ) → Enabled w p → H (termsOf w) + w .settings .largest ≤ roomOf (w .settings .rooms) p
@@ -63,13 +64,8 @@ sound-watch s accepted fits =
             small-refresh = ok .refresh-most;
             small-room = omega (arith, ok .largest-most, ok .generation-most, ok .request-most, ok .data-most);
           };
-      headroom = omega arith;
+      mark = λ p. omega (arith, marks-whole (watchOf s) p refl accepted .mark);
       wire = refl;
       pause = fits;
       enough = λ p on. omega (arith, ok .room-least p (enabled-below (s .enabled) p on) (enabled-set (s .enabled) p on));
     }
-
--- the mark below which pause is wanted
-pub mark-is : (w : Watch) → SoundWatch w → (p : ℕ) → limitsOf w p .mark ≡ H (termsOf w) + w .settings .largest
-unfolding limitsOf
-mark-is w sound p = omega (arith, sound .headroom, sound .terms .small-room)

@@ -1,5 +1,5 @@
 -- Laws about the recorder's definitions.
 pub mod Decided
-pub mod DueLaws
 pub mod Marking
+pub mod Order
 pub mod RoomLaws

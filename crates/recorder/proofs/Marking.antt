@@ -1,22 +1,19 @@
--- How a mark and a room are put back, and what a taking answers once its tests are known. Assumes nothing.
+-- How a room is put back with its mark, and what a taking answers once its tests are known. Assumes nothing.
 use Prim.Native.Nat.{ℕ}
-use mathlib.Core.Path.{_≡_, refl, sym, ap, _∙_}
+use mathlib.Core.Path.{_≡_, sym, ap, _∙_}
 use mathlib.Core.Bool.{Bool, true, false}
 use mathlib.Core.List.{List}
 use lib.Dec.{ltb, eqb}
 use lib.ListN.{set}
+use Rattle.ground.specs.First.{firstOf}
 use Rattle.ground.specs.Pick.{pick}
 use Rattle.settings.specs.Settings.{isEnabled}
+use Rattle.marks.specs.Marks.{withMark}
+use Rattle.marks.specs.declared.Marks.{Marks}
 use Rattle.rooms.specs.Room.{numbersOf}
 use Rattle.rooms.specs.declared.Limits.{Limits}
 use Rattle.rooms.specs.declared.Room.{Room}
-use Rattle.recorder.specs.Watching.{Recorder, recorderOf, roomAt, differ, withMark, withRoom, refusalWith, takenWith, leavesWith}
-use Rattle.recorder.specs.declared.Marks.{Marks}
-
-pub differ-from-false : (b : Bool) → differ false b ≡ b
-unfolding differ
-differ-from-false true = refl
-differ-from-false false = refl
+use Rattle.recorder.specs.Watching.{Recorder, recorderOf, roomAt, withRoom, refusalWith, takenWith, leavesWith}
 
 -- a priority's room is read, changed, and put back with its mark
 pub room-put : (r : Recorder) (priority clock : ℕ) (after : Room → Room) {was room : Room} {numbers : List ℕ} {marks : Marks} →
@@ -35,11 +32,11 @@ module _ (enabled : ℕ) (limits : Limits) (r : Recorder) (priority octets clock
   Answers number after = (number ≡ refusalWith enabled r priority octets) × (after ≡ leavesWith enabled limits r priority octets clock)
 
   pub taking-32 : ltb 7 priority ≡ true → Answers 32 r
-  unfolding pick refusalWith leavesWith
+  unfolding pick refusalWith leavesWith firstOf
   taking-32 e32 = (simp e32, simp e32)
 
   pub taking-43 : ltb 7 priority ≡ false → isEnabled enabled priority ≡ false → Answers 43 r
-  unfolding pick refusalWith leavesWith
+  unfolding pick refusalWith leavesWith firstOf
   taking-43 e32 e43 = (simp (e32, e43), simp (e32, e43))
 
   -- 42 by the room as it was read
@@ -48,10 +45,10 @@ module _ (enabled : ℕ) (limits : Limits) (r : Recorder) (priority octets clock
 
   pub taking-42 : {was : Room} → ltb 7 priority ≡ false → isEnabled enabled priority ≡ true → was ≡ roomAt r priority →
       ltb (was .held) octets ≡ true → Answers 42 r
-  unfolding pick refusalWith leavesWith
+  unfolding pick refusalWith leavesWith firstOf
   taking-42 e32 e43 is e42 = (simp (e32, e43, held-as is e42), simp (e32, e43, held-as is e42))
 
   pub taking-0 : {was : Room} {after : Recorder} → ltb 7 priority ≡ false → isEnabled enabled priority ≡ true → was ≡ roomAt r priority →
       ltb (was .held) octets ≡ false → after ≡ takenWith limits r priority octets clock → Answers 0 after
-  unfolding pick refusalWith leavesWith
+  unfolding pick refusalWith leavesWith firstOf
   taking-0 e32 e43 is e42 done = (simp (e32, e43, held-as is e42), done ∙ simp (e32, e43, held-as is e42))

@@ -1,17 +1,18 @@
--- The rooms and marks of a recorder in which one room changed: that room is the one put, every other is as before, and something is
--- wanted as before where its mark did not change. With accepted settings the marks are cut off nowhere. Each law assumes what it states.
+-- The rooms of a recorder in which one room changed: that room is the one put, every other is as before. With accepted settings the marks
+-- are cut off nowhere. Each law assumes what it states.
 use Prim.Native.Nat.{ℕ, _<_, _≤_}
 use mathlib.Core.Path.{_≡_, refl, sym, ap, _∙_, subst}
-use mathlib.Core.Bool.{Bool, true, false, false≢true}
-use mathlib.Core.List.{List, []}
+use mathlib.Core.Bool.{Bool, true, false}
+use mathlib.Core.List.{[]}
 use native.Mathlib.Omega.{arith}
 use borrow.Author.Tests.{eqb-true, eqb-false}
 use lib.Dec.{eqb}
-use lib.ListN.{length, getD, set, length-set}
-use lib.Seq.{ext-getD, getD-set-same, getD-set-other}
+use lib.ListN.{length, length-set}
+use lib.Seq.{getD-set-same, getD-set-other}
 use Rattle.ground.specs.Pick.{pick}
-use Rattle.ground.specs.Eight.{eight, isSet, some}
-use Rattle.ground.proofs.Eight.{getD-eight, eight-of-list, some-here, some-none, some-found}
+use Rattle.ground.specs.Eight.{isSet}
+use Rattle.ground.proofs.Eight.{getD-eight}
+use Rattle.marks.specs.Marks.{withMark}
 use Rattle.rooms.specs.Room.{emptyRoom, roomIn, numbersOf}
 use Rattle.rooms.specs.RoomRun.{Marked}
 use Rattle.rooms.specs.declared.Limits.{Limits}
@@ -20,30 +21,8 @@ use Rattle.room_to_keep.specs.declared.Kept.{Kept}
 use Rattle.settings.specs.Settings.{headroomOf, settingsRefusal}
 use Rattle.settings.proofs.Settled.{keptFor}
 use Rattle.settings.proofs.SettingsLaws.{accepted-facts}
-use Rattle.recorder.specs.Watching.{Recorder, fresh, roomAt, wantedAt, limitsOf, differ, withMark, withRoom, someWanted}
-use Rattle.recorder.specs.Watching.{arrivedWith, takenWith, leavesWith}
-use Rattle.recorder.specs.declared.Marks.{Marks}
+use Rattle.recorder.specs.Watching.{Recorder, fresh, roomAt, limitsOf, withRoom, arrivedWith, takenWith, leavesWith}
 use Rattle.recorder.specs.declared.Watch.{Watch}
-
--- two marks do not differ where they are the same, and only there
-pub differ-same : (mark : Bool) → differ mark mark ≡ false
-unfolding differ
-differ-same true = refl
-differ-same false = refl
-
-pub differ-other : (was is : Bool) → (was ≡ is → ⊥) → differ was is ≡ true
-unfolding differ
-differ-other true true apart = absurd (apart refl)
-differ-other true false apart = refl
-differ-other false true apart = refl
-differ-other false false apart = absurd (apart refl)
-
-pub differ-none : (was is : Bool) → differ was is ≡ false → was ≡ is
-unfolding differ
-differ-none true true none = refl
-differ-none true false none = absurd (false≢true (sym none))
-differ-none false true none = absurd (false≢true (sym none))
-differ-none false false none = refl
 
 -- a room and a mark for each of the eight priorities
 pub record EightRooms (r : Recorder) : Type 0 where
@@ -73,39 +52,6 @@ module _ (r : Recorder) (priority : ℕ) (room : Room) (clock : ℕ) where
       let numbers = getD-set-other (r .rooms) priority other (numbersOf room) [] apart in
       let marked = getD-set-other (r .marks .wanted) priority other (room .wanted) false apart in
       λ i. roomIn (numbers i) (marked i)
-
-module _ (marks : Marks) (all : length (marks .wanted) ≡ 8) where
-  listed : someWanted marks ≡ some (eight (wantedAt marks))
-  listed = ap some (eight-of-list (marks .wanted) false all)
-
-  -- one of the eight that is wanted makes some wanted; where none is, none is
-  pub some-wanted : (n : ℕ) → n < 8 → wantedAt marks n ≡ true → someWanted marks ≡ true
-  some-wanted n below wanted = listed ∙ some-here (wantedAt marks) n below wanted
-
-  pub none-wanted : ((n : ℕ) → n < 8 → wantedAt marks n ≡ false) → someWanted marks ≡ false
-  none-wanted none = listed ∙ some-none (wantedAt marks) none
-
-  -- some wanted is one that can be named
-  pub wanted-found : someWanted marks ≡ true → (n : ℕ) × (n < 8) × (wantedAt marks n ≡ true)
-  wanted-found holds = some-found (wantedAt marks) (sym listed ∙ holds)
-
--- a mark put as it was changes nothing
-same-marks : (marks : List Bool) (n : ℕ) (wanted : Bool) → n < length marks → getD marks n false ≡ wanted → set marks n wanted ≡ marks
-same-marks marks n wanted here same =
-    ext-getD false (set marks n wanted) marks (length-set marks n wanted) (λ k below. at k (eqb k n) refl)
-  where
-    at : (k : ℕ) (b : Bool) → eqb k n ≡ b → getD (set marks n wanted) k false ≡ getD marks k false
-    at k true e =
-        subst (λ (j : ℕ). getD (set marks n wanted) j false ≡ getD marks j false) (sym (eqb-true k n e))
-        (getD-set-same marks n wanted false here ∙ sym same)
-    at k false e = getD-set-other marks n k wanted false (eqb-false k n e)
-
--- a room that keeps its mark changes nothing of what is wanted
-pub same-wanted : (r : Recorder) (priority : ℕ) (room : Room) (clock : ℕ) → EightRooms r → priority < 8 →
-    differ (roomAt r priority .wanted) (room .wanted) ≡ false → someWanted (withRoom r priority room clock .marks) ≡ someWanted (r .marks)
-unfolding withRoom withMark
-same-wanted r priority room clock all below none =
-    ap some (same-marks (r .marks .wanted) priority (room .wanted) (omega (arith, all .wanted, below)) (differ-none _ _ none))
 
 -- an arrival and a taking keep the eight
 either : (test : Bool) {one other : Recorder} → EightRooms one → EightRooms other → EightRooms (pick test one other)

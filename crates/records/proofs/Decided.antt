@@ -11,4 +11,4 @@ pub body-length-decides : Decides 0 body-length-kinds.ps body-length-kinds.r bod
 body-length-decides κs args x y e f p q = p .0 ∙ sym (q .0)
 
 pub decode-decides : Decides 1 decode-kinds.ps decode-kinds.r decode.Post
-decode-decides κs args x y e f p q = p ∙ sym q
+decode-decides κs args x y e f p q = p .1 ∙ sym (q .1)

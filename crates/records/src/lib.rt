@@ -2,7 +2,7 @@
 ghost use mathlib.Core.Path.{_≡_};
 ghost use Prim.Native.Nat.{_<_, _≤_, _+_};
 ghost use lib.ListN.{length};
-ghost use Rattle.records.specs.Records.{bodyLength, bodyOf, sizedRefusal, decoded};
+ghost use Rattle.records.specs.Records.{bodyLength, bodyOf, isRepeated, sizedRefusal, octetsRefusal, decoded, recordNumberOf};
 
 // What a record asks, with its numbers, or the refusal of its octets.
 pub enum Record {
@@ -69,15 +69,22 @@ fn body(kind: u8, octets: &[u8]) -> Record
     Record::TakeOctets(octets::octet_at(octets, 1), octets::word_at(octets, 2))
 }
 
+// Settings repeated; no octets at all are none.
+fn is_repeated(kind: u8, size: usize) -> bool
+    ensures { λ r. ⌜ r ≡ isRepeated kind size ⌝ }
+{
+    if size < 1 {
+        return false;
+    }
+    kind == 0
+}
+
 // 44, 30 and 31 of a record of this kind with this many octets, of which its kind has a whole count, in their order; 0 where none of
 // them holds.
 fn refusal(kind: u8, size: usize, whole: usize) -> u8
     ensures { λ r. ⌜ r ≡ sizedRefusal kind size whole ⌝ }
 {
-    if size < 1 {
-        return 31;
-    }
-    if kind == 0 {
+    if is_repeated(kind, size) {
         return 44;
     }
     if 7 < kind {
@@ -91,7 +98,7 @@ fn refusal(kind: u8, size: usize, whole: usize) -> u8
 
 // What the octets of a record after the settings ask; octets past the record are not looked at.
 pub fn decode(octets: &[u8]) -> Record
-    ensures { λ r. ⌜ r ≡ decoded (now (octets .entry)) ⌝ }
+    ensures { λ r. ⌜ (recordNumberOf r ≡ octetsRefusal (now (octets .entry))) × (r ≡ decoded (now (octets .entry))) ⌝ }
 {
     let kind = octets::octet_at(octets, 0);
     let number = refusal(kind, octets.len(), 1 + body_length(kind));

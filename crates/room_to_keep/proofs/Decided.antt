@@ -5,4 +5,4 @@ use Rattle.room_to_keep.proofs.keep.Kinds as keep-kinds
 use Rattle.room_to_keep.proofs.keep.Reads as keep
 
 pub keep-decides : Decides 0 keep-kinds.ps keep-kinds.r keep.Post
-keep-decides κs args x y e f p q = p ∙ sym q
+keep-decides κs args x y e f p q = p .1 ∙ sym (q .1)

@@ -1,17 +1,21 @@
 -- Laws of what `keep` answers, for its callers: what a room and a refusal say of the inputs. Assumes nothing.
 use Prim.Native.Nat.{ℕ, _+_, _≤_}
-use mathlib.Core.Path.{_≡_, refl}
+use mathlib.Core.Path.{_≡_, refl, sym, ap, _∙_}
 use mathlib.Core.Bool.{Bool, true, false}
 use native.Mathlib.Omega.{arith}
-use borrow.Author.Tests.{ltb-false}
+use borrow.Author.Tests.{ltb-false, eq-eqb}
 use lib.Dec.{ltb}
 use Rattle.ground.specs.Pick.{pick}
+use Rattle.ground.specs.First.{firstOf, testAt, isAmong, areApart}
+use Rattle.ground.proofs.Pick.{pick-yes}
+use Rattle.ground.proofs.First.{first-given}
 use Rattle.units.specs.declared.OctetTimes.{OctetTimes}
 use Rattle.units.specs.Units.{octetsOfBits, wireTime}
 use Rattle.limits.specs.Limits.{leastM, largestM, largestDelay, largestPath, refused13, delayOver, pathOver}
-use Rattle.room_to_keep.specs.Keep.{oneWay, refused14, keepRefusal, kept, keeping, keepingOf}
+use Rattle.room_to_keep.specs.Keep.{oneWay, refused14, keepOrder, keepRefusal, kept, keeping, keepingOf, keepNumberOf}
 use Rattle.room_to_keep.specs.declared.Kept.{Kept}
 use Rattle.room_to_keep.specs.declared.Keeping.{Keeping}
+use Rattle.room_to_keep.proofs.Exactly.{keep-number}
 
 -- the bounds behind a room
 pub record Within (largest generation request «data» : ℕ) : Type 0 where
@@ -34,13 +38,6 @@ unfolding pick
 neither true c e = let z : _≡_ {A = ℕ} 0 1 = cc in absurd (omega arith)
 neither false c e = (refl, e)
 
-opened : (b13 b14 : Bool) (room whole : Kept) → Keeping.Room room ≡ keepingOf (pick b13 13 (pick b14 14 0)) whole →
-    (b13 ≡ false) × (b14 ≡ false) × (room ≡ whole)
-unfolding pick
-opened true b14 room whole e = let z : _≡_ {A = ℕ} 0 1 = cc in absurd (omega arith)
-opened false true room whole e = let z : _≡_ {A = ℕ} 0 1 = cc in absurd (omega arith)
-opened false false room whole e = (refl, refl, cc)
-
 refused : (b13 b14 : Bool) (number : ℕ) (whole : Kept) → b13 ≡ false →
     Keeping.Refused number ≡ keepingOf (pick b13 13 (pick b14 14 0)) whole → b14 ≡ true
 unfolding pick
@@ -62,16 +59,25 @@ module _ (largest generation request «data» : ℕ) where
         data-most = ltb-false _ _ (p .1);
       }
 
+  -- neither 13 nor 14
+  pub not-refused : keepRefusal largest generation request «data» ≡ 0 → (refused13 largest ≡ false) × (refused14 generation request «data» ≡ false)
+  unfolding areApart isAmong testAt pick
+  not-refused none =
+      let each = first-given (keepOrder largest generation request «data») refl .none-only none
+      in (each 0 (omega arith), each 1 (omega arith))
+
   pub is-room : (room : Kept) → Keeping.Room room ≡ keeping largest generation request «data» → IsRoom largest generation request «data» room
-  unfolding keeping keepRefusal
+  unfolding keeping keepNumberOf
   is-room room e =
-      let h = opened (refused13 largest) (refused14 generation request «data») room (kept largest generation request «data») e
-      in record { no13 = h .0; no14 = h .1; bounds = within (h .0) (h .1); is = h .2 }
+      let none : keepRefusal largest generation request «data» ≡ 0 = sym (ap keepNumberOf e ∙ keep-number largest generation request «data»)
+      in let h = not-refused none
+      in let same : Keeping.Room room ≡ Keeping.Room (kept largest generation request «data») = e ∙ pick-yes _ _ (eq-eqb _ _ none)
+      in record { no13 = h .0; no14 = h .1; bounds = within (h .0) (h .1); is = cc }
 
   -- a refusal of an M that passes is 14's
   pub is-14 : (number : ℕ) → refused13 largest ≡ false → Keeping.Refused number ≡ keeping largest generation request «data» →
       refused14 generation request «data» ≡ true
-  unfolding keeping keepRefusal
+  unfolding keeping firstOf
   is-14 number no13 e =
       refused (refused13 largest) (refused14 generation request «data») number (kept largest generation request «data») no13 e
 

@@ -1,8 +1,10 @@
 -- Document 01, "Headroom": what is kept in octet times, and what `keep` answers for every input, refused ones too.
 use Prim.Native.Nat.{ℕ, _+_}
 use mathlib.Core.Bool.{Bool, true}
+use mathlib.Core.List.{List, [], _∷_}
 use lib.Dec.{eqb}
 use Rattle.ground.specs.Pick.{pick}
+use Rattle.ground.specs.First.{Refusal, _gives_, firstOf}
 use Rattle.units.specs.Counts.{octets}
 use Rattle.units.specs.Units.{octetsOfBits, wireTime, pfcTime}
 use Rattle.limits.specs.Limits.{largestM, largestDelay, largestPath, refused13, delayOver, pathOver}
@@ -17,20 +19,24 @@ oneWay largest generation request = octetsOfBits generation + wireTime largest +
 abbrev pub headroom : ℕ → ℕ → ℕ → ℕ → ℕ
 headroom largest generation request «data» = oneWay largest generation request + wireTime largest + octetsOfBits «data»
 
--- the one-way time and the headroom at the limits: no accepted ones are longer
+-- the one-way time at the limits: no accepted one is longer
 abbrev pub mostOneWay : ℕ
 mostOneWay = oneWay largestM largestDelay largestPath
-
-abbrev pub mostHeadroom : ℕ
-mostHeadroom = headroom largestM largestDelay largestPath largestPath
 
 -- 14 by the generation and the paths alone, where no station delay is known
 abbrev pub refused14 : ℕ → ℕ → ℕ → Bool
 refused14 generation request «data» = pick (delayOver generation) true (pick (pathOver request) true (pathOver «data»))
 
--- 13 and 14, in this order; 0: none of them
-unfoldable pub keepRefusal : ℕ → ℕ → ℕ → ℕ → ℕ
-keepRefusal largest generation request «data» = pick (refused13 largest) 13 (pick (refused14 generation request «data») 14 0)
+-- 13 and 14, in this order
+abbrev pub keepOrder : ℕ → ℕ → ℕ → ℕ → List Refusal
+keepOrder largest generation request «data» =
+    refused13 largest gives 13
+    ∷ refused14 generation request «data» gives 14
+    ∷ []
+
+-- the first of them whose condition holds; 0: none of them
+abbrev pub keepRefusal : ℕ → ℕ → ℕ → ℕ → ℕ
+keepRefusal largest generation request «data» = firstOf (keepOrder largest generation request «data»)
 
 -- G, W, P, D, the one-way time and the headroom
 abbrev pub kept : ℕ → ℕ → ℕ → ℕ → Kept

@@ -7,10 +7,12 @@ use limits::LEAST_M;
 use units::BitTimes;
 use units::OctetTimes;
 ghost use mathlib.Core.Path.{_≡_};
+ghost use mathlib.Core.List.{[], _∷_};
 ghost use Prim.Native.Nat.{_+_, _≤_};
+ghost use Rattle.ground.specs.First.{_gives_, firstOf};
 ghost use Rattle.units.specs.Units.{octetsOfBits, wireTime};
-ghost use Rattle.limits.specs.Limits.{largestM, largestDelay, largestPath};
-ghost use Rattle.room_to_keep.specs.Keep.{oneWay, mostOneWay, kept, keeping};
+ghost use Rattle.limits.specs.Limits.{largestM, largestDelay, largestPath, refused13};
+ghost use Rattle.room_to_keep.specs.Keep.{oneWay, mostOneWay, refused14, keepOrder, kept, keeping, keepNumberOf};
 
 // What is kept in octet times: G, W, P, D, the one-way time and the headroom.
 pub struct Kept {
@@ -63,29 +65,52 @@ fn room_of(largest: u64, generation: BitTimes, request: BitTimes, data: BitTimes
     }
 }
 
-// What is kept for a largest frame M, a generation delay and the bits of the two paths. Refusals 13 and 14: the first that holds.
-pub fn keep(
-    largest: u64,
-    generation: BitTimes,
-    request_path: BitTimes,
-    data_path: BitTimes,
-) -> Keeping
-    ensures { λ r. ⌜ r ≡ keeping largest (generation .0) («request_path» .0) («data_path» .0) ⌝ }
+// 13: M is outside its range.
+fn outside_m(largest: u64) -> bool
+    ensures { λ r. ⌜ r ≡ refused13 largest ⌝ }
 {
     if largest < LEAST_M {
-        return Keeping::Refused(13);
+        return true;
     }
-    if LARGEST_M < largest {
-        return Keeping::Refused(13);
-    }
+    LARGEST_M < largest
+}
+
+// 14 by the generation or by a path.
+fn over(generation: BitTimes, request: BitTimes, data: BitTimes) -> bool
+    ensures { λ r. ⌜ r ≡ refused14 (generation .0) (request .0) («data» .0) ⌝ }
+{
     if LARGEST_DELAY.0 < generation.0 {
-        return Keeping::Refused(14);
+        return true;
     }
-    if LARGEST_PATH.0 < request_path.0 {
-        return Keeping::Refused(14);
+    if LARGEST_PATH.0 < request.0 {
+        return true;
     }
-    if LARGEST_PATH.0 < data_path.0 {
-        return Keeping::Refused(14);
+    LARGEST_PATH.0 < data.0
+}
+
+// 13, then 14; 0 where neither holds.
+fn first_of(is_outside: bool, is_over: bool) -> u8
+    ensures { λ r. ⌜ r ≡ firstOf («is_outside» gives 13 ∷ «is_over» gives 14 ∷ []) ⌝ }
+{
+    if is_outside {
+        return 13;
     }
-    Keeping::Room(room_of(largest, generation, request_path, data_path))
+    if is_over {
+        return 14;
+    }
+    0
+}
+
+// What is kept for a largest frame M, a generation delay and the bits of the two paths. Refusals 13 and 14: the first that holds.
+pub fn keep(largest: u64, generation: BitTimes, request: BitTimes, data: BitTimes) -> Keeping
+    ensures { λ r. ⌜ (keepNumberOf r ≡ firstOf (keepOrder largest (generation .0) (request .0) («data» .0)))
+        × (r ≡ keeping largest (generation .0) (request .0) («data» .0)) ⌝ }
+{
+    let is_outside = outside_m(largest);
+    let is_over = over(generation, request, data);
+    let number = first_of(is_outside, is_over);
+    if number != 0 {
+        return Keeping::Refused(number);
+    }
+    Keeping::Room(room_of(largest, generation, request, data))
 }

@@ -1,5 +1,5 @@
 -- Laws of one room.
-pub mod Counters
 pub mod Decided
 pub mod Made
+pub mod Moves
 pub mod RoomLaws

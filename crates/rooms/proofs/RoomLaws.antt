@@ -1,8 +1,8 @@
 -- What a room keeps, for any set of priorities that shares it: a room of one priority, one shared by all, one a PAUSE timer empties,
 -- one a port. A mark of headroom + M leaves the headroom whole when the crossing frame is in; what is held, dropped and taken adds up
--- to what arrived; and the marks and the span move as document 01 says. For whoever shows that no frame is dropped. Each law names
+-- to what arrived; and the marks move as document 01 says (for the span and the worst see `Moves`). For whoever shows that no frame is dropped. Each law names
 -- what it assumes of the limits; the counts are those of a 64-bit number, so the sums assume less than 2^64 octets.
-use Prim.Native.Nat.{ℕ, _+_, _-_, _^_, _≤_, _<_, max}
+use Prim.Native.Nat.{ℕ, _+_, _-_, _^_, _≤_, _<_}
 use mathlib.Core.Path.{_≡_, refl, sym, _∙_}
 use mathlib.Core.Bool.{Bool, true, false, false≢true}
 use mathlib.Core.List.{List, [], _∷_}
@@ -12,7 +12,7 @@ use borrow.Author.Tests.{ltb-false, lt-ltb, le-ltb, le-leb, lt-leb, leb-true}
 use Rattle.ground.specs.Pick.{pick}
 use Rattle.ground.proofs.Pick.{pick-yes, pick-no}
 use Rattle.units.specs.Units.{within64}
-use Rattle.rooms.specs.Room.{freeOf, fits, heldAfter, droppedAfter, wantedAfter, spanAfter, spanKept, arrivedIn, takenFrom}
+use Rattle.rooms.specs.Room.{freeOf, fits, heldAfter, droppedAfter, wantedAfter, arrivedIn, takenFrom}
 use Rattle.rooms.specs.RoomRun.{Marked, NotWantedFree, HeldWithin, RoomEvent, afterEvent, afterRun, TakesHeld, arrivedSum, takenSum}
 use Rattle.rooms.specs.RoomRun.RoomEvent.{arrival, taking}
 use Rattle.rooms.specs.RoomRun.TakesHeld.{ends, arrives, takes}
@@ -134,41 +134,6 @@ pub adds-up : (limits : Limits) (events : List RoomEvent) → TakesHeld limits e
 adds-up limits events held-takings small = omega (arith, adds-up-from limits emptyRoom events held-takings (omega arith))
 
 module _ (limits : Limits) (room : Room) where
-  -- while pause is wanted the span grows by what arrives
-  pub span-grows : (length : ℕ) → room .wanted ≡ true → room .span + length < 2 ^ 64 → arrivedIn limits room length .span ≡ room .span + length
-  unfolding arrivedIn spanAfter
-  span-grows length wanted small = pick-yes _ _ wanted ∙ omega arith
-
-  -- "the crossing frame not counted"
-  pub crossing-not-counted : (length : ℕ) → room .wanted ≡ false → arrivedIn limits room length .span ≡ 0
-  unfolding arrivedIn spanAfter
-  crossing-not-counted length not-wanted = pick-no _ _ not-wanted
-
-  -- the worst is the larger of the worst before and the span; a taking leaves it
-  pub worst-is-larger : (length : ℕ) → arrivedIn limits room length .worst ≡ max (room .worst) (arrivedIn limits room length .span)
-  unfolding arrivedIn
-  worst-is-larger length = refl
-
-  pub worst-stays : (octets : ℕ) → takenFrom limits room octets .worst ≡ room .worst
-  unfolding takenFrom
-  worst-stays octets = refl
-
-  -- a taking leaves the span while pause stays wanted, and ends it where it is no longer wanted
-  pub span-stays : (octets : ℕ) → takenFrom limits room octets .wanted ≡ true → takenFrom limits room octets .span ≡ room .span
-  unfolding takenFrom spanKept
-  span-stays octets wanted = pick-yes _ _ wanted
-
-  pub span-ends : (octets : ℕ) → takenFrom limits room octets .wanted ≡ false → takenFrom limits room octets .span ≡ 0
-  unfolding takenFrom spanKept
-  span-ends octets not-wanted = pick-no _ _ not-wanted
-
-module _ (limits : Limits) (room : Room) where
-  -- a frame of at most the free room is held, and nothing is dropped
-  pub fit-held : (length : ℕ) → length ≤ freeOf (limits .size) (room .held) →
-      (arrivedIn limits room length .held ≡ room .held + length) × (arrivedIn limits room length .dropped ≡ room .dropped)
-  unfolding arrivedIn heldAfter droppedAfter
-  fit-held length fit = let test = le-leb length (freeOf (limits .size) (room .held)) fit in (pick-yes _ _ test, pick-yes _ _ test)
-
   -- a taking makes no priority wanted
   pub still-unwanted : (octets : ℕ) → NotWantedFree limits room → room .wanted ≡ false → takenFrom limits room octets .wanted ≡ false
   unfolding takenFrom wantedAfter pick

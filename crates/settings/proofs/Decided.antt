@@ -11,4 +11,4 @@ pub is-enabled-decides : Decides 0 is-enabled-kinds.ps is-enabled-kinds.r is-ena
 is-enabled-decides κs args x y e f p q = p ∙ sym q
 
 pub settle-decides : Decides 0 settle-kinds.ps settle-kinds.r settle.Post
-settle-decides κs args x y e f p q = p ∙ sym q
+settle-decides κs args x y e f p q = p .1 ∙ sym (q .1)

@@ -2,20 +2,23 @@
 use Prim.Native.Nat.{ℕ, _+_, _≤_}
 use mathlib.Core.Path.{_≡_, refl, sym, ap, _∙_}
 use mathlib.Core.Bool.{Bool, true, false, false≢true, _&&_}
-use mathlib.Core.List.{List}
+use mathlib.Core.List.{List, [], _∷_}
 use native.Mathlib.Omega.{arith}
 use lib.Dec.{ltb, eqb}
 use lib.ListN.{getD}
 use borrow.Author.Tests.{ltb-false}
 use Rattle.ground.specs.Pick.{pick}
+use Rattle.ground.specs.First.{_gives_, firstOf, testAt, isAmong, areApart}
 use Rattle.ground.specs.Eight.{eight, isSet, some}
+use Rattle.ground.proofs.Pick.{pick-no}
+use Rattle.ground.proofs.First.{first-given}
 use Rattle.limits.specs.Limits.{refused13}
 use Rattle.room_to_keep.specs.Keep.{refused14, keepRefusal, kept, keeping}
 use Rattle.room_to_keep.specs.declared.Kept.{Kept}
 use Rattle.room_to_keep.specs.declared.Keeping.{Keeping}
 use Rattle.room_to_keep.proofs.Room.{is-room}
 use Rattle.settings.specs.Settings.{oneWayOf, refused17, refused18, refused16, refused15, largestRoom, someEnabled, someRoomAbove, someRoomBelow}
-use Rattle.settings.specs.Settings.{numberOf, breaks, firstBroken, settingsRefusal, settling}
+use Rattle.settings.specs.Settings.{settingsRefusal, settling}
 use Rattle.settings.specs.Between.{houseRefusal, Carries}
 use Rattle.settings.specs.declared.Settings.{Settings}
 use Rattle.settings.specs.declared.Settling.the-variants.{Accepted, Refused}
@@ -61,19 +64,35 @@ module _ (s : Settings) where
   own-headroom room own is told =
       sym (is ∙ ap (λ (k : ℕ). someRoomBelow (s .enabled) (s .rooms) (k + s .largest + s .hysteresis)) (own .headroom)) ∙ told
 
-  -- 17, 18, 16 and 15 in their order, by the values of their tests
-  pub house-by : (b17 b18 b16 b15 : Bool) → refused17 (s .refresh .0) ≡ b17 → refused18 (s .enabled) (s .rooms) (s .hysteresis) ≡ b18 →
-      refused16 (s .pause) (s .refresh .0) (oneWayOf s) ≡ b16 → refused15 s ≡ b15 →
-      houseRefusal s ≡ pick b17 17 (pick b18 18 (pick b16 16 (pick b15 15 0)))
-  unfolding firstBroken breaks numberOf
-  house-by b17 b18 b16 b15 e17 e18 e16 e15 = rw (e17, e18, e16, e15)
+  -- 17, 18 and 16 in their order: where one of them holds it decides, and where none does 15 is left
+  module _ {b17 b18 b16 : Bool} {number : ℕ} (e17 : refused17 (s .refresh .0) ≡ b17) (e18 : refused18 (s .enabled) (s .rooms) (s .hysteresis) ≡ b18)
+      (e16 : refused16 (s .pause) (s .refresh .0) (oneWayOf s) ≡ b16) (is : number ≡ firstOf (b17 gives 17 ∷ b18 gives 18 ∷ b16 gives 16 ∷ [])) where
+    pub bounds-refused : (number ≡ 0 → ⊥) → number ≡ houseRefusal s
+    unfolding firstOf pick
+    bounds-refused some = rw (e17, e18, e16) (go b17 b18 b16 is some)
+      where
+        go : (b17 b18 b16 : Bool) → number ≡ pick b17 17 (pick b18 18 (pick b16 16 0)) → (number ≡ 0 → ⊥) →
+            number ≡ pick b17 17 (pick b18 18 (pick b16 16 (pick (refused15 s) 15 0)))
+        go true b18 b16 is some = is
+        go false true b16 is some = is
+        go false false true is some = is
+        go false false false is some = absurd (some is)
+
+    pub bounds-passed : number ≡ 0 → (houseRefusal s ≡ pick (refused15 s) 15 0) × (b18 ≡ false)
+    unfolding areApart isAmong testAt firstOf pick
+    bounds-passed none =
+        let each = first-given (b17 gives 17 ∷ b18 gives 18 ∷ b16 gives 16 ∷ []) refl .none-only (sym is ∙ none) in
+        let no17 = e17 ∙ each 0 (omega arith) in
+        let no18 = each 1 (omega arith) in
+        let no16 = e16 ∙ each 2 (omega arith) in
+        (pick-no _ _ no17 ∙ (pick-no _ _ (e18 ∙ no18) ∙ pick-no _ _ no16), no18)
 
   -- 13 and 14 come first, by the headroom layer's definition
   abbrev sumRefusal : ℕ
   sumRefusal = keepRefusal (s .largest) (s .generation .0) (s .«request_path» .0) (s .«data_path» .0)
 
   sum-first : settingsRefusal s ≡ pick (eqb sumRefusal 0) (houseRefusal s) sumRefusal
-  unfolding firstBroken breaks numberOf keepRefusal pick
+  unfolding firstOf pick
   sum-first = go (refused13 (s .largest)) (refused14 (s .generation .0) (s .«request_path» .0) (s .«data_path» .0))
     where
       go : (b13 b14 : Bool) →

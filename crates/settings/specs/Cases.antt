@@ -25,12 +25,14 @@ settings004 pause refresh room =
 
 abbrev pub settingsCases : List Bool
 settingsCases =
-    -- P "with these, T 132 and I 56 pass"; P "room 17,779 with hysteresis 0 passes"
+    -- P "with these, T 132 and I 56 pass"
     eqb (settingsRefusal (settings004 132 56 17779)) 0
     -- "I 57 gives 16"
     ∷ eqb (settingsRefusal (settings004 132 57 17779)) 16
     -- "T 131 with I 1 gives 16"
     ∷ eqb (settingsRefusal (settings004 131 1 17779)) 16
+    -- P "room 17,779 with hysteresis 0 passes"
+    ∷ eqb (settingsRefusal (settings004 132 1 17779)) 0
     -- "17,778 gives 15"
-    ∷ eqb (settingsRefusal (settings004 132 56 17778)) 15
+    ∷ eqb (settingsRefusal (settings004 132 1 17778)) 15
     ∷ []

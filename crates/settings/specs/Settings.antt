@@ -5,6 +5,7 @@ use mathlib.Core.List.{List, [], _∷_}
 use lib.ListN.{getD}
 use lib.Dec.{ltb, eqb}
 use Rattle.ground.specs.Pick.{pick}
+use Rattle.ground.specs.First.{Refusal, _gives_, firstOf}
 use Rattle.ground.specs.Eight.{eight, isSet, some}
 use Rattle.units.specs.Units.{quantum, octetsOfQuanta}
 use Rattle.limits.specs.Limits.{refused13}
@@ -73,43 +74,20 @@ refused16 pause refresh passage = ltb (octetsOfQuanta pause) (leastPaused refres
 abbrev pub refused15 : Settings → Bool
 refused15 s = someRoomBelow (s .enabled) (s .rooms) (leastRoom s)
 
--- the rules of settings, each with its number
-pub data Rule : Type 0 where
-  rule13 : Rule
-  rule14 : Rule
-  rule15 : Rule
-  rule16 : Rule
-  rule17 : Rule
-  rule18 : Rule
-
-unfoldable pub numberOf : Rule → ℕ
-numberOf Rule.rule13 = 13
-numberOf Rule.rule14 = 14
-numberOf Rule.rule15 = 15
-numberOf Rule.rule16 = 16
-numberOf Rule.rule17 = 17
-numberOf Rule.rule18 = 18
-
--- settings break a rule
-unfoldable pub breaks : Settings → Rule → Bool
-breaks s Rule.rule13 = refused13 (s .largest)
-breaks s Rule.rule14 = refused14 (s .generation .0) (s .«request_path» .0) (s .«data_path» .0)
-breaks s Rule.rule15 = refused15 s
-breaks s Rule.rule16 = refused16 (s .pause) (s .refresh .0) (oneWayOf s)
-breaks s Rule.rule17 = refused17 (s .refresh .0)
-breaks s Rule.rule18 = refused18 (s .enabled) (s .rooms) (s .hysteresis)
-
 -- "Settings 13, 14, 17, 18, 16, 15"
-abbrev pub order : List Rule
-order = Rule.rule13 ∷ Rule.rule14 ∷ Rule.rule17 ∷ Rule.rule18 ∷ Rule.rule16 ∷ Rule.rule15 ∷ []
+abbrev pub settingsOrder : Settings → List Refusal
+settingsOrder s =
+    refused13 (s .largest) gives 13
+    ∷ refused14 (s .generation .0) (s .«request_path» .0) (s .«data_path» .0) gives 14
+    ∷ refused17 (s .refresh .0) gives 17
+    ∷ refused18 (s .enabled) (s .rooms) (s .hysteresis) gives 18
+    ∷ refused16 (s .pause) (s .refresh .0) (oneWayOf s) gives 16
+    ∷ refused15 s gives 15
+    ∷ []
 
--- "Each is given exactly when its condition holds and none earlier in the order does"; 0: none of them
-unfoldable pub firstBroken : Settings → List Rule → ℕ
-firstBroken s [] = 0
-firstBroken s (rule ∷ rules) = pick (breaks s rule) (numberOf rule) (firstBroken s rules)
-
+-- the first of them whose condition holds; 0: none of them
 abbrev pub settingsRefusal : Settings → ℕ
-settingsRefusal s = firstBroken s order
+settingsRefusal s = firstOf (settingsOrder s)
 
 -- accepted settings carry G, W, P, D, the one-way time and the headroom
 unfoldable pub settling : Settings → Settling

@@ -6,11 +6,14 @@ use units::OctetTimes;
 use units::Quanta;
 ghost use mathlib.Core.Path.{_≡_};
 ghost use mathlib.Core.Bool.{false, _&&_};
+ghost use mathlib.Core.List.{[], _∷_};
 ghost use Prim.Native.Nat.{ℕ, _^_, _+_, _<_};
 ghost use lib.Dec.{ltb};
 ghost use lib.ListN.{getD};
 ghost use Rattle.ground.specs.Eight.{eight};
-ghost use Rattle.settings.specs.Settings.{isEnabled, roomOf, someEnabled, someRoomBelow, refused17, refused18, refused16, settling};
+ghost use Rattle.ground.specs.First.{_gives_, firstOf};
+ghost use Rattle.settings.specs.Settings.{isEnabled, roomOf, someEnabled, someRoomBelow, refused17, refused18, refused16};
+ghost use Rattle.settings.specs.Settings.{settingsOrder, settling, settlingNumberOf};
 ghost use Rattle.settings.specs.Between.{houseRefusal, Carries};
 
 // Enabled priorities (bit n is priority n), the largest frame M in octets, generation, request path and data path in bit times, the
@@ -141,20 +144,34 @@ fn refused_15(enabled: u8, rooms: [u64; 8], headroom: u64, largest: u64, hystere
     some_enabled(enabled, below(rooms, headroom + largest + hysteresis))
 }
 
+// 17, 18 and 16 in their order; 0 where none of them holds.
+fn bounds_refusal(is_17: bool, is_18: bool, is_16: bool) -> u8
+    ensures { λ r. ⌜ r ≡ firstOf («is_17» gives 17 ∷ «is_18» gives 18 ∷ «is_16» gives 16 ∷ []) ⌝ }
+{
+    if is_17 {
+        return 17;
+    }
+    if is_18 {
+        return 18;
+    }
+    if is_16 {
+        return 16;
+    }
+    0
+}
+
 // Refusals 17, 18, 16 and 15, of settings that 13 and 14 passed; 0 where none of them holds.
 fn house_refusal(s: Settings, kept: Kept) -> u8
     requires { ⌜ Carries s kept ⌝ }
     ensures { λ r. ⌜ r ≡ houseRefusal s ⌝ }
 {
     let rooms = s.rooms;
-    if refused_17(s.refresh) {
-        return 17;
-    }
-    if refused_18(s.enabled, rooms, s.hysteresis) {
-        return 18;
-    }
-    if refused_16(s.pause, s.refresh, kept.one_way) {
-        return 16;
+    let is_17 = refused_17(s.refresh);
+    let is_18 = refused_18(s.enabled, rooms, s.hysteresis);
+    let is_16 = refused_16(s.pause, s.refresh, kept.one_way);
+    let number = bounds_refusal(is_17, is_18, is_16);
+    if number != 0 {
+        return number;
     }
     if refused_15(s.enabled, rooms, kept.headroom.0, s.largest, s.hysteresis) {
         return 15;
@@ -165,7 +182,7 @@ fn house_refusal(s: Settings, kept: Kept) -> u8
 // Accepted with G, W, P, D, the one-way time and the headroom, or refused: 13, 14, 17, 18, 16, 15 in this order. Rooms of priorities
 // that are not enabled are not looked at.
 pub fn settle(s: Settings) -> Settling
-    ensures { λ r. ⌜ r ≡ settling s ⌝ }
+    ensures { λ r. ⌜ (settlingNumberOf r ≡ firstOf (settingsOrder s)) × (r ≡ settling s) ⌝ }
 {
     let keeping = room_to_keep::keep(s.largest, s.generation, s.request_path, s.data_path);
     match keeping {

@@ -5,8 +5,9 @@ use mathlib.Core.List.{List, [], _∷_, map}
 use lib.Dec.{ltb, eqb}
 use lib.ListN.{length, getD, drop}
 use Rattle.ground.specs.Pick.{pick}
+use Rattle.ground.specs.First.{Refusal, _gives_}
 use Rattle.units.specs.Counts.{bits}
-use Rattle.interface_rows.specs.Stack.{indexFrom, stackAnswer}
+use Rattle.interface_rows.specs.Stack.{indexFrom, stackOver, stackAnswer}
 use Rattle.interface_rows.specs.declared.Stacked.{Stacked}
 use Rattle.headroom_sum.specs.declared.Inputs.{Inputs}
 use Rattle.words.specs.declared.Word.{Word}
@@ -59,6 +60,16 @@ isRows word =
 -- the delays of the stack whose rows the digits after `rows:` name, counted from 1; a word too short for that names none
 unfoldable pub rowsAnswer : List ℕ → Stacked
 rowsAnswer word = pick (ltb (length word) prefix) Stacked.Unknown (stackAnswer (map (indexFrom one') (drop prefix word)))
+
+-- the one refusal of such a stack
+abbrev pub rowsOrder : List ℕ → List Refusal
+rowsOrder word = pick (ltb (length word) prefix) false (stackOver (map (indexFrom one') (drop prefix word))) gives 14 ∷ []
+
+-- document 01's number of what a word says: it knows no words, and has a number for none of them
+unfoldable pub wordNumberOf : Word → ℕ
+wordNumberOf (Word.Number number) = 0
+wordNumberOf Word.NotANumber = 0
+wordNumberOf Word.TooLarge = 0
 
 -- the inputs in the order of the arguments: RATE METRES PERCENTAGE M GENERATION B_TRANSMIT B_RECEIVE A_TRANSMIT A_RECEIVE HALT
 abbrev pub inputsOf : List ℕ → Inputs

@@ -6,7 +6,9 @@ use units::BitTimes;
 ghost use mathlib.Core.Path.{_≡_};
 ghost use mathlib.Core.Bool.{Bool};
 ghost use Prim.Native.Nat.{_-_, max};
-ghost use Rattle.words.specs.Words.{numberOf, isRows, rowsAnswer, inputsOf};
+ghost use Rattle.ground.specs.First.{firstOf};
+ghost use Rattle.interface_rows.specs.Stack.{stackNumberOf};
+ghost use Rattle.words.specs.Words.{numberOf, wordNumberOf, isRows, rowsOrder, rowsAnswer, inputsOf};
 
 // What a word says.
 pub enum Word {
@@ -31,7 +33,7 @@ fn wide(octet: u8) -> u64
 
 // A word of decimal digits as a number, up to what 64 bits hold. Any octets are answered.
 pub fn number_of(word: &[u8]) -> Word
-    ensures { λ r. ⌜ r ≡ numberOf (now (word .entry)) ⌝ }
+    ensures { λ r. ⌜ (wordNumberOf r ≡ 0) × (r ≡ numberOf (now (word .entry))) ⌝ }
 {
     if word.len() == 0 {
         return Word::NotANumber;
@@ -79,7 +81,8 @@ pub fn is_rows(word: &[u8]) -> bool
 
 // The delays of the stack whose rows the digits after `rows:` name, counted from 1. A shorter word names no stack.
 pub fn delays_of_rows(word: &[u8]) -> Stacked
-    ensures { λ r. ⌜ r ≡ rowsAnswer (now (word .entry)) ⌝ }
+    ensures { λ r. ⌜ (stackNumberOf r ≡ firstOf (rowsOrder (now (word .entry)))) × (r ≡ rowsAnswer (now (word .entry)))
+        × (now (word .exit) ≡ now (word .entry)) ⌝ }
 {
     if word.len() < PREFIX {
         return Stacked::Unknown;

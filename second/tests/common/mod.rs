@@ -189,8 +189,13 @@ pub const WANTED_AT_84: [Record; 3] = [
 /// A bench in which priority 0 is wanted and the PFC frames of a row of starts, one every 84 octet
 /// times, are all under way: I is 1, so each refresh is due again one octet time after a start.
 pub fn bench_with_pfc_under_way(frames: usize) -> Bench {
+    bench_with_pfc_under_way_every(1, frames)
+}
+
+/// The same with this I, a frame starting as soon as it is due and the wire is free.
+pub fn bench_with_pfc_under_way_every(i: u16, frames: usize) -> Bench {
     let given = Given {
-        i: 1,
+        i: i.into(),
         request_path: 8 * 20_000,
         // P 20,000 makes one-way 20,178 and headroom 20,262.
         rooms: [20_262 + 64; 8],
@@ -200,7 +205,7 @@ pub fn bench_with_pfc_under_way(frames: usize) -> Bench {
     accept_all(&mut bench, &WANTED_AT_84);
     accept_all(&mut bench, &[START_PFC]);
     for _ in 1..frames {
-        accept_all(&mut bench, &[wait(84), START_PFC]);
+        accept_all(&mut bench, &[wait(i.max(84)), START_PFC]);
     }
     bench
 }

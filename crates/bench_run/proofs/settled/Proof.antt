@@ -45,7 +45,7 @@ returns c =
     let input = now (settle .before .before .before .args .input) in
     c .refused-report .ensures ∙
     settled-refused input _
-    (ap settling (sym (settle .before .settings-in .ensures)) ∙ sym (settle .settle .ensures) ∙ c .before .before .settling .given .1)
+    (ap settling (sym (settle .before .settings-in .ensures)) ∙ sym (settle .settle .ensures .1) ∙ c .before .before .settling .given .1)
 
 returns-2 : tie.Need-returns-2
 returns-2 c =
@@ -55,7 +55,7 @@ returns-2 c =
     c .follow .ensures ∙
     ap (λ (s : Settings). followOf (watchWith s (kept .0 .0)) (take (length input - 58) (drop 58 input))) (settle .before .settings-in .ensures) ∙
     ap (followOf (watchWith (settingsIn input) (kept .0 .0))) (take-rest 58 input) ∙
-    settled-accepted input _ (ap settling (sym (settle .before .settings-in .ensures)) ∙ sym (settle .settle .ensures) ∙ kept .1)
+    settled-accepted input _ (ap settling (sym (settle .before .settings-in .ensures)) ∙ sym (settle .settle .ensures .1) ∙ kept .1)
 
 pub settled-spec : {M : Type 1} → statement M
 settled-spec =

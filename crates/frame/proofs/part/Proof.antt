@@ -1,9 +1,13 @@
--- `frame::part` meets its contract. Assumes nothing.
+-- `frame::part` meets its contract, by those of what it calls. Assumes nothing.
+use Prim.Native.Nat.{ℕ}
 use denote.Ref.{now}
-use mathlib.Core.Path.{sym, _∙_}
+use mathlib.Core.Path.{_≡_, ap, _∙_}
 use native.Mathlib.Omega.{arith}
+use lib.ListN.{drop, length}
 use Rattle.ground.proofs.Parts.{take-rest}
-use Rattle.frame.proofs.Reading.{data-is-sized, data-part, request-part, refused-part}
+use Rattle.frame.specs.declared.Verdict.{Verdict}
+use Rattle.frame.specs.Read.{partStart, verdict}
+use Rattle.frame.proofs.Reading.{part-from, start-within}
 use borrow.Author.Needs.{needs}
 use Rattle.frame.proofs.part.Statement.{statement}
 use Rattle.frame.proofs.part.Tie as tie
@@ -11,55 +15,32 @@ use Rattle.frame.proofs.part.Tie as tie
 read-requires : tie.Need-read-requires
 read-requires c κs = search needs
 
-enum-told : tie.Need-enum-told
-enum-told c = search needs
+part-start-requires : tie.Need-part-start-requires
+part-start-requires c κs = search needs
 
 sub-result : tie.Need-sub-result
-sub-result c = omega (arith, data-is-sized _ _ _ (sym (c .before .before .read .ensures) ∙ c .enum-told .given .1) .whole)
+sub-result c =
+    let a = c .before .before .before .args in
+    let start = c .part-start .ensures ∙ ap (λ (v : Verdict). partStart v (length (now (a .frame)))) (c .before .read .ensures .1) in
+    omega (arith, start, start-within (now (a .frame)) (a .largest) (a .own))
 
 part-result-start : tie.Need-part-result-start
-part-result-start c = omega (arith, data-is-sized _ _ _ (sym (c .before .before .read .ensures) ∙ c .enum-told .given .1) .whole)
+part-result-start c =
+    let a = c .before .before .before .args in
+    let start = c .part-start .ensures ∙ ap (λ (v : Verdict). partStart v (length (now (a .frame)))) (c .before .read .ensures .1) in
+    omega (arith, start, start-within (now (a .frame)) (a .largest) (a .own))
 
 part-result-end : tie.Need-part-result-end
 part-result-end c = search needs
 
-enum-told-2 : tie.Need-enum-told-2
-enum-told-2 c = search needs
-
-slice-aggregate-result : tie.Need-slice-aggregate-result
-slice-aggregate-result c = search needs
-
-enum-told-3 : tie.Need-enum-told-3
-enum-told-3 c = search needs
-
-slice-aggregate-result-2 : tie.Need-slice-aggregate-result-2
-slice-aggregate-result-2 c = search needs
-
 returns : tie.Need-returns
 returns c =
-    let a = c .before .before .before .before .before .args in
-    let is-data = sym (c .before .before .before .read .ensures) ∙ c .before .enum-told .given .1 in
-    take-rest 12 (now (a .frame)) ∙ sym (data-part _ _ _ is-data)
-
-returns-2 : tie.Need-returns-2
-returns-2 c = sym (request-part _ _ _ (sym (c .before .before .before .read .ensures) ∙ c .before .enum-told2 .given .1))
-
-returns-3 : tie.Need-returns-3
-returns-3 c = sym (refused-part _ _ _ (sym (c .before .before .before .read .ensures) ∙ c .before .enum-told3 .given .1))
+    let a = c .before .before .before .before .args in
+    let start : c .before .part-start .result ≡ partStart (verdict (now (a .frame)) (a .largest) (a .own)) (length (now (a .frame))) =
+    c .before .part-start .ensures ∙ ap (λ (v : Verdict). partStart v (length (now (a .frame)))) (c .before .before .read .ensures .1) in
+    take-rest (c .before .part-start .result) (now (a .frame))
+    ∙ ap (λ (n : ℕ). drop n (now (a .frame))) start
+    ∙ part-from (verdict (now (a .frame)) (a .largest) (a .own)) (now (a .frame))
 
 pub part-spec : {M : Type 1} → statement M
-part-spec =
-    tie.close
-    (tie.spec
-    read-requires
-    enum-told
-    sub-result
-    part-result-start
-    part-result-end
-    enum-told-2
-    slice-aggregate-result
-    enum-told-3
-    slice-aggregate-result-2
-    returns
-    returns-2
-    returns-3)
+part-spec = tie.close (tie.spec read-requires part-start-requires sub-result part-result-start part-result-end returns)

@@ -1,51 +1,96 @@
--- `frame::read` meets its contract. Assumes nothing.
-use Prim.Native.Nat.{ℕ}
-use mathlib.Core.Path.{ap, sym, _∙_}
+-- `frame::read` meets its contract, by those of what it calls. Assumes nothing.
+use mathlib.Core.Path.{sym, _∙_}
 use denote.Ref.{now}
-use lib.Dec.{eqb}
-use borrow.Author.Tests.{eq-eqb, ne-eqb}
-use Rattle.ground.proofs.Pick.{pick-yes, pick-no}
-use Rattle.frame.specs.Read.{verdict, wholeVerdict}
-use Rattle.frame.specs.declared.Verdict.the-variants.{Refused}
+use Rattle.frame.proofs.Reading.{size-number, control-number, taken-by, read-by, verdict-refused, verdict-taken}
 use borrow.Author.Needs.{needs}
 use Rattle.frame.proofs.read.Statement.{statement}
 use Rattle.frame.proofs.read.Tie as tie
 
-size-refusal-requires : tie.Need-size-refusal-requires
-size-refusal-requires c κs = search needs
+is-long-requires : tie.Need-is-long-requires
+is-long-requires c κs = search needs
+
+is-outside-requires : tie.Need-is-outside-requires
+is-outside-requires c κs = search needs
+
+size-refused-requires : tie.Need-size-refused-requires
+size-refused-requires c κs = search needs
 
 returns : tie.Need-returns
-unfolding verdict
 returns c =
-    let size = c .before .size-refusal in
-    ap Refused (size .ensures)
-    ∙ sym (pick-no _ _ (ap (λ (k : ℕ). eqb k 0) (sym (size .ensures)) ∙ ne-eqb (size .result) 0 (c .if1 .taken)))
+    let args' = c .before .before .before .before .before .args in
+    let is-outside' = c .before .before .is-outside in
+    let is-long' = c .before .before .before .is-long in
+    let size-refused' = c .before .size-refused in
+    let if1' = c .if1 in
+    let a = args' in
+    let number = size-number (now (a .frame)) (a .largest) (a .own) (is-outside' .ensures) (is-long' .ensures) (size-refused' .ensures) (if1' .taken) in
+    read-by (now (a .frame)) (a .largest) (a .own) number (sym (verdict-refused (size-refused' .result) (now (a .frame)) (if1' .taken)))
 
-slice-aggregate-address-at : tie.Need-slice-aggregate-address-at
-slice-aggregate-address-at c = search needs
+is-control-requires : tie.Need-is-control-requires
+is-control-requires c κs = search needs
 
-address-at-requires : tie.Need-address-at-requires
-address-at-requires c κs = search needs
+is-elsewhere-requires : tie.Need-is-elsewhere-requires
+is-elsewhere-requires c κs = search needs
 
-whole-requires : tie.Need-whole-requires
-whole-requires c κs = search needs
+is-other-requires : tie.Need-is-other-requires
+is-other-requires c κs = search needs
+
+control-refused-requires : tie.Need-control-refused-requires
+control-refused-requires c κs = search needs
 
 returns-2 : tie.Need-returns-2
-unfolding verdict
 returns-2 c =
-    let a = c .before .before .before .before .before .before .args in
-    let size = c .before .before .before .before .size-refusal in
-    c .whole .ensures
-    ∙ ap (λ (n : ℕ). wholeVerdict n (now (a .frame))) (c .before .address-at .ensures)
-    ∙ sym (pick-yes _ _ (ap (λ (k : ℕ). eqb k 0) (sym (size .ensures)) ∙ eq-eqb (size .result) 0 (c .before .before .before .if1 .left)))
+    let args' = c .before .before .before .before .before .before .before .before .before .before .args in
+    let is-outside' = c .before .before .before .before .before .before .before .is-outside in
+    let is-long' = c .before .before .before .before .before .before .before .before .is-long in
+    let size-refused' = c .before .before .before .before .before .before .size-refused in
+    let if1' = c .before .before .before .before .before .if1 in
+    let is-control' = c .before .before .before .before .is-control in
+    let is-elsewhere' = c .before .before .before .is-elsewhere in
+    let is-other' = c .before .before .is-other in
+    let control-refused' = c .before .control-refused in
+    let if2' = c .if2 in
+    let a = args' in
+    let number =
+    control-number (now (a .frame)) (a .largest) (a .own) (is-outside' .ensures) (is-long' .ensures) (size-refused' .ensures) (if1' .left)
+    (is-control' .ensures) (is-elsewhere' .ensures) (is-other' .ensures) (control-refused' .ensures) in
+    read-by (now (a .frame)) (a .largest) (a .own) number (sym (verdict-refused (control-refused' .result) (now (a .frame)) (if2' .taken)))
+
+taken-requires : tie.Need-taken-requires
+taken-requires c κs = search needs
+
+returns-3 : tie.Need-returns-3
+returns-3 c =
+    let args' = c .before .before .before .before .before .before .before .before .before .before .before .args in
+    let is-outside' = c .before .before .before .before .before .before .before .before .is-outside in
+    let is-long' = c .before .before .before .before .before .before .before .before .before .is-long in
+    let size-refused' = c .before .before .before .before .before .before .before .size-refused in
+    let if1' = c .before .before .before .before .before .before .if1 in
+    let is-control' = c .before .before .before .before .before .is-control in
+    let is-elsewhere' = c .before .before .before .before .is-elsewhere in
+    let is-other' = c .before .before .before .is-other in
+    let control-refused' = c .before .before .control-refused in
+    let taken' = c .taken in
+    let if2' = c .before .if2 in
+    let a = args' in
+    let number =
+    control-number (now (a .frame)) (a .largest) (a .own) (is-outside' .ensures) (is-long' .ensures) (size-refused' .ensures) (if1' .left)
+    (is-control' .ensures) (is-elsewhere' .ensures) (is-other' .ensures) (control-refused' .ensures) in
+    let taken = taken-by (now (a .frame)) (a .largest) (a .own) (is-control' .ensures) (taken' .ensures) in
+    read-by (now (a .frame)) (a .largest) (a .own) number (taken ∙ sym (verdict-taken (control-refused' .result) (now (a .frame)) (if2' .left)))
 
 pub read-spec : {M : Type 1} → statement M
 read-spec =
     tie.close
     (tie.spec
-    size-refusal-requires
+    is-long-requires
+    is-outside-requires
+    size-refused-requires
     returns
-    slice-aggregate-address-at
-    address-at-requires
-    whole-requires
-    returns-2)
+    is-control-requires
+    is-elsewhere-requires
+    is-other-requires
+    control-refused-requires
+    returns-2
+    taken-requires
+    returns-3)

@@ -31,7 +31,21 @@ word-at-requires-8 : tie.Need-word-at-requires-8
 word-at-requires-8 c κs = search needs
 
 returns : tie.Need-returns
-returns c = cc
+returns c =
+    let third = c .before .before .before .before .before in
+    let first = third .before .before .before in
+    λ i.
+    record {
+      e = first .octet-at .ensures i;
+      t0 = third .before .before .word-at .ensures i;
+      t1 = third .before .word-at2 .ensures i;
+      t2 = third .word-at3 .ensures i;
+      t3 = c .before .before .before .before .word-at4 .ensures i;
+      t4 = c .before .before .before .word-at5 .ensures i;
+      t5 = c .before .before .word-at6 .ensures i;
+      t6 = c .before .word-at7 .ensures i;
+      t7 = c .word-at8 .ensures i;
+    }
 
 pub request-in-spec : {M : Type 1} → statement M
 request-in-spec =

@@ -1,22 +1,25 @@
 -- `headroom_sum::after_link` meets its contract: each test is the definition's, and with the delays and the halt bounded the paths
 -- fit. Assumes nothing.
 use mathlib.Core.Path.{sym, _∙_}
+use native.Mathlib.Omega.{arith}
 use Rattle.ground.specs.Pick.{pick}
+use Rattle.ground.specs.First.{firstOf}
 use Rattle.ground.proofs.Pick.{pick-yes, pick-no}
 use borrow.Author.Needs.{needs}
 use Rattle.headroom_sum.specs.Stages.{BeforePaths}
-use Rattle.headroom_sum.specs.Given.{given13, given14}
-use Rattle.headroom_sum.proofs.Exactly.{gives}
+use Rattle.headroom_sum.proofs.Exactly.{answered-by}
 use Rattle.headroom_sum.proofs.Order.{halt-alone, stations-within}
 use Rattle.headroom_sum.proofs.after_link.Statement.{statement}
 use Rattle.headroom_sum.proofs.after_link.Tie as tie
 
 -- where the sum stands past the station delays
 passed : (c : tie.Else2) → BeforePaths (c .before .before .before .before .args .inputs)
+unfolding firstOf
 passed c =
+    let no13 = sym (c .before .before .before .outside-m .ensures) ∙ c .before .before .if1 .left in
     record {
-      before = c .before .before .before .before .pre .before;
-      largest = sym (c .before .before .before .outside-m .ensures) ∙ c .before .before .if1 .left;
+      left = c .before .before .before .before .pre .left ∙ pick-no _ _ no13;
+      largest = no13;
       stations = sym (c .before .station-over .ensures) ∙ c .if2 .left;
     }
 
@@ -24,28 +27,27 @@ outside-m-requires : tie.Need-outside-m-requires
 outside-m-requires c κs = search needs
 
 returns : tie.Need-returns
-unfolding pick
-returns c = gives _ (given13 (c .before .before .pre .before) (sym (c .before .outside-m .ensures) ∙ c .if1 .taken))
+unfolding pick firstOf
+returns c = answered-by _ (c .before .before .pre .left ∙ pick-yes _ _ (sym (c .before .outside-m .ensures) ∙ c .if1 .taken))
 
 station-over-requires : tie.Need-station-over-requires
 station-over-requires c κs = search needs
 
 returns-2 : tie.Need-returns-2
-unfolding pick
+unfolding pick firstOf
 returns-2 c =
     let m = c .before .before .before in
-    gives _
-    (given14 (m .before .pre .before) (sym (m .outside-m .ensures) ∙ c .before .before .if1 .left)
-    (pick-yes _ _ (sym (c .before .station-over .ensures) ∙ c .if2 .taken)))
+    let no13 = sym (m .outside-m .ensures) ∙ c .before .before .if1 .left in
+    let over = pick-yes _ _ (sym (c .before .station-over .ensures) ∙ c .if2 .taken) in
+    answered-by _ (m .before .pre .left ∙ (pick-no _ _ no13 ∙ pick-yes _ _ over))
 
 returns-3 : tie.Need-returns-3
-unfolding pick
+unfolding pick firstOf
 returns-3 c =
     let past = c .before .before .before in
     let p = passed past in
-    gives _
-    (given14 (p .before) (p .largest)
-    (pick-no _ _ (p .stations) ∙ halt-alone (past .before .before .before .before .args .inputs) (c .if3 .taken)))
+    let over = pick-no _ _ (p .stations) ∙ halt-alone (past .before .before .before .before .args .inputs) (c .if3 .taken) in
+    answered-by _ (p .left ∙ pick-yes _ _ over)
 
 request-bits-requires : tie.Need-request-bits-requires
 request-bits-requires c κs =
@@ -57,7 +59,8 @@ data-bits-requires : tie.Need-data-bits-requires
 data-bits-requires c κs =
     let past = c .before .before .before .before in
     let f = stations-within (passed past) in
-    (f .a-transmit, past .before .before .before .before .pre .link-most, f .b-receive)
+    let halt = c .before .if3 .left in
+    (omega (arith, f, halt), past .before .before .before .before .pre .link-most, omega (arith, f, halt))
 
 after-paths-requires : tie.Need-after-paths-requires
 after-paths-requires c κs =

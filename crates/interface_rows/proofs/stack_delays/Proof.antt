@@ -3,6 +3,7 @@ use mathlib.Core.Path.{_∙_, sym}
 use Prim.Native.Nat.{_-_}
 use borrow.Author.Needs.{needs}
 use lib.ListN.{length}
+use Rattle.interface_rows.proofs.Numbers.{promised}
 use Rattle.interface_rows.proofs.Stack.{Stacking, start, next, stops, ends}
 use Rattle.interface_rows.proofs.stack_delays.Statement.{statement}
 use Rattle.interface_rows.proofs.stack_delays.Tie as tie
@@ -35,8 +36,9 @@ returns : tie.Need-returns Inv-loop μ-loop
 returns c =
     let loop = c .before .before .before .before .before .before in
     let turn = c .before .before .before .before .before .loop-test .taken in
-    stops _ _ _ _ _ (loop .loop .inv) turn (c .before .before .before .index-from .ensures)
-    (sym (c .enum-told .given .1) ∙ c .before .before .row-at .ensures)
+    promised _
+    (stops _ _ _ _ _ (loop .loop .inv) turn (c .before .before .before .index-from .ensures)
+    (sym (c .enum-told .given .1) ∙ c .before .before .row-at .ensures .1))
 
 more-bits-requires : tie.Need-more-bits-requires Inv-loop μ-loop
 more-bits-requires c κs = search needs
@@ -53,13 +55,13 @@ loop-again c =
     let turn = c .before .before .before .before .before .before .before .loop-test .taken in
     rw (c .more-bits .ensures)
     (next _ _ _ _ _ (loop .loop .inv) turn (c .before .before .before .before .before .index-from .ensures) _
-    (sym (c .before .before .row .given .1) ∙ c .before .before .before .before .row-at .ensures))
+    (sym (c .before .before .row .given .1) ∙ c .before .before .before .before .row-at .ensures .1))
 
 halves-requires : tie.Need-halves-requires Inv-loop μ-loop
 halves-requires c κs = search needs
 
 returns-2 : tie.Need-returns-2 Inv-loop μ-loop
-returns-2 c = c .halves .ensures ∙ ends _ _ _ _ (c .before .before .loop .inv) (c .before .loop-test .left)
+returns-2 c = promised _ (c .halves .ensures ∙ ends _ _ _ _ (c .before .before .loop .inv) (c .before .loop-test .left))
 
 pub stack-delays-spec : {M : Type 1} → statement M
 stack-delays-spec =

@@ -1,9 +1,11 @@
 -- `recorder::arrived` meets its contract. Assumes nothing.
-use mathlib.Core.Path.{sym, _∙_}
+use mathlib.Core.Bool.{true, false}
+use mathlib.Core.Path.{_≡_, sym, _∙_}
 use denote.Ref.{now}
 use Rattle.ground.proofs.Pick.{pick-yes, pick-no}
 use Rattle.rooms.specs.declared.Room.{Room}
 use Rattle.rooms.specs.Room.{arrivedIn}
+use Rattle.settings.specs.Settings.{isEnabled}
 use Rattle.settings.proofs.SettingsLaws.{enabled-below}
 use Rattle.recorder.specs.Watching.{recorderOf, arrivedWith}
 use Rattle.recorder.proofs.Marking.{room-put}
@@ -41,9 +43,7 @@ element-set-from-numbers c =
     enabled-below _ _ (sym (then .before .is-enabled .ensures) ∙ then .if1 .taken)
 
 with-mark-requires : tie.Need-with-mark-requires
-with-mark-requires c κs =
-    let then = c .before .before .before .before .before in
-    enabled-below _ _ (sym (then .before .is-enabled .ensures) ∙ then .if1 .taken)
+with-mark-requires c κs = search needs
 
 returns : tie.Need-returns
 unfolding arrivedWith
@@ -52,15 +52,19 @@ returns c =
     let a = then .before .before .args in
     let r = recorderOf (now (a .numbers)) (a .marks) in
     let is = c .before .before .before .room-in .ensures in
+    let on : isEnabled (a .enabled) (a .priority) ≡ true = sym (then .before .is-enabled .ensures) ∙ then .if1 .taken in
     room-put r (a .priority) (a .clock .0) (λ (x : Room). arrivedIn (a .limits) x (a .length)) is
     (c .before .before .arrived .ensures)
     (c .before .numbers-of .ensures)
     (c .with-mark .ensures)
-    ∙ sym (pick-yes _ _ (sym (then .before .is-enabled .ensures) ∙ then .if1 .taken))
+    ∙ sym (pick-yes _ _ on)
 
 returns-2 : tie.Need-returns-2
 unfolding arrivedWith
-returns-2 c = sym (pick-no _ _ (sym (c .before .is-enabled .ensures) ∙ c .if1 .left))
+returns-2 c =
+    let a = c .before .before .args in
+    let off : isEnabled (a .enabled) (a .priority) ≡ false = sym (c .before .is-enabled .ensures) ∙ c .if1 .left in
+    sym (pick-no _ _ off)
 
 pub arrived-spec : {M : Type 1} → statement M
 arrived-spec =

@@ -1,7 +1,8 @@
 -- `recorder::limits_of` meets its contract. Assumes nothing.
 use Prim.Native.Nat.{ℕ}
-use mathlib.Core.Path.{ap, _∙_}
+use mathlib.Core.Path.{_≡_, ap, _∙_}
 use Rattle.rooms.specs.Room.{limitsFor}
+use Rattle.rooms.specs.declared.Limits.{Limits}
 use Rattle.recorder.specs.Watching.{limitsOf}
 use borrow.Author.Needs.{needs}
 use Rattle.recorder.proofs.limits_of.Statement.{statement}
@@ -17,8 +18,9 @@ returns : tie.Need-returns
 unfolding limitsOf
 returns c =
     let w = c .before .before .before .args .watch in
-    let size = c .before .size-of .ensures in
-    c .limits-for .ensures ∙ ap (λ (k : ℕ). limitsFor k (w .kept .headroom .0) (w .settings .largest) (w .settings .hysteresis)) size
+    let by : ℕ → Limits = λ k. limitsFor k (w .kept .headroom .0) (w .settings .largest) (w .settings .hysteresis) in
+    let told : c .limits-for .result ≡ by (c .before .size-of .result) = c .limits-for .ensures in
+    told ∙ ap by (c .before .size-of .ensures)
 
 pub limits-of-spec : {M : Type 1} → statement M
 limits-of-spec = tie.close (tie.spec size-of-requires limits-for-requires returns)

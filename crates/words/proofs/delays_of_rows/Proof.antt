@@ -1,8 +1,10 @@
 -- `words::delays_of_rows` meets its contract: the part from octet 5 on is what follows `rows:`. Assumes nothing.
-use mathlib.Core.Path.{_∙_}
+use mathlib.Core.Path.{refl, _∙_}
+use denote.Ref.{now}
 use Rattle.ground.specs.Pick.{pick}
 use Rattle.ground.proofs.Tests.{tests}
 use Rattle.words.specs.Words.{rowsAnswer}
+use Rattle.words.proofs.Numbers.{promised}
 use Rattle.words.proofs.Reading.{from-prefix}
 use borrow.Author.Needs.{needs}
 use Rattle.words.proofs.delays_of_rows.Statement.{statement}
@@ -10,7 +12,7 @@ use Rattle.words.proofs.delays_of_rows.Tie as tie
 
 returns : tie.Need-returns
 unfolding pick rowsAnswer
-returns c = search tests
+returns c = promised (now (c .before .before .args .word)) (search tests) refl
 
 sub-stack-delays : tie.Need-sub-stack-delays
 sub-stack-delays c = search needs
@@ -25,7 +27,7 @@ stack-delays-requires : tie.Need-stack-delays-requires
 stack-delays-requires c κs = search needs
 
 returns-2 : tie.Need-returns-2
-returns-2 c = c .stack-delays .ensures ∙ from-prefix _ (c .before .before .if1 .left)
+returns-2 c = promised _ (c .stack-delays .ensures .1 ∙ from-prefix _ (c .before .before .if1 .left)) refl
 
 pub delays-of-rows-spec : {M : Type 1} → statement M
 delays-of-rows-spec =

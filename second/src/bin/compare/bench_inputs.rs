@@ -1,8 +1,10 @@
 //! Makes inputs of the bench: deep runs, the same runs damaged, runs refused on purpose, noise.
 
-use second::bench::{Record, LONGEST_INPUT, MOST_UNDER_WAY};
-use second::PRIORITIES;
+use second::bench::{Record, LONGEST_INPUT};
+use second::order::Pair;
 
+use crate::both_hold;
+use crate::crowds::{with_data_under_way, with_pfc_under_way};
 use crate::random::Random;
 use crate::run_under_way::Run;
 use crate::settings_record::{self, SettingsRecord};
@@ -14,6 +16,7 @@ pub enum BenchKind {
     LatestRun,
     DamagedRun,
     RefusedLast(u8),
+    BothHold(Pair),
     SettingsNearLimits,
     RandomRecords,
     RandomOctets,
@@ -29,6 +32,7 @@ impl BenchKind {
             BenchKind::LatestRun => "bench, everything as late as it may be",
             BenchKind::DamagedRun => "bench, run damaged",
             BenchKind::RefusedLast(_) => "bench, last record refused on purpose",
+            BenchKind::BothHold(_) => "bench, two refusals of one order line hold",
             BenchKind::SettingsNearLimits => "bench, settings near limits",
             BenchKind::RandomRecords => "bench, random records",
             BenchKind::RandomOctets => "bench, random octets",
@@ -50,6 +54,7 @@ pub fn make(random: &mut Random, kind: BenchKind) -> Vec<u8> {
         BenchKind::LatestRun => latest_run(random).input,
         BenchKind::DamagedRun => damaged(random),
         BenchKind::RefusedLast(number) => refused_last(random, number),
+        BenchKind::BothHold(pair) => both_hold::make(random, pair),
         BenchKind::SettingsNearLimits => settings_near_limits(random),
         BenchKind::RandomRecords => random_records(random),
         BenchKind::RandomOctets => random_octets(random),
@@ -63,7 +68,7 @@ pub fn make(random: &mut Random, kind: BenchKind) -> Vec<u8> {
     }
 }
 
-fn some_settings(random: &mut Random) -> SettingsRecord {
+pub fn some_settings(random: &mut Random) -> SettingsRecord {
     if random.once_in(3) {
         settings_record::accepted(random)
     } else {
@@ -245,8 +250,7 @@ fn refused_last(random: &mut Random, number: u8) -> Vec<u8> {
         44 if random.once_in(3) => without_settings(random),
         45 => return too_long(random),
         30 | 31 | 44 => refused_form(random, number),
-        35 if random.once_in(2) => crowded(random, 35),
-        36 => crowded(random, 36),
+        36 => crowded(random),
         _ => refused_step(random, number),
     };
     // What stands after a refused record is not looked at; after a cut one there is nothing.
@@ -275,7 +279,7 @@ fn cut_settings(random: &mut Random) -> Vec<u8> {
     input
 }
 
-fn without_settings(random: &mut Random) -> Vec<u8> {
+pub fn without_settings(random: &mut Random) -> Vec<u8> {
     let mut input = vec![random.between(1, 255) as u8];
     let run = deep_run(random).input;
     input.extend(&run[settings_record::SETTINGS_OCTETS..]);
@@ -283,7 +287,7 @@ fn without_settings(random: &mut Random) -> Vec<u8> {
     input
 }
 
-fn too_long(random: &mut Random) -> Vec<u8> {
+pub fn too_long(random: &mut Random) -> Vec<u8> {
     let count = LONGEST_INPUT + random.pick(&[1, 1, 2, 3, 1_000, 70_000]);
     if random.once_in(2) {
         return random.octets(count);
@@ -296,19 +300,28 @@ fn too_long(random: &mut Random) -> Vec<u8> {
     input
 }
 
+/// A first record other than settings with its body cut short, and nothing after it.
+pub fn cut_first_record(random: &mut Random) -> Vec<u8> {
+    let mut input = Vec::new();
+    append_cut_record(random, &mut input);
+    input
+}
+
+fn append_cut_record(random: &mut Random, input: &mut Vec<u8>) {
+    let kind = random.pick(&[1u8, 2, 4, 7]);
+    let count = random.between(0, record_octets(kind) as u64 - 2) as usize;
+    input.push(kind);
+    let cut_body = random.octets(count);
+    input.extend(cut_body);
+}
+
 /// 30, 31 and 44: the form of a later record.
-fn refused_form(random: &mut Random, number: u8) -> Vec<u8> {
+pub fn refused_form(random: &mut Random, number: u8) -> Vec<u8> {
     let mut input = deep_run(random).input;
     input.truncate(record_start_below(&input, 65_000));
     match number {
         30 => input.push(random.pick(&[8, 9, 0x10, 0x80, 0xFF])),
-        31 => {
-            let kind = random.pick(&[1u8, 2, 4, 7]);
-            let count = random.between(0, record_octets(kind) as u64 - 2) as usize;
-            input.push(kind);
-            let cut_body = random.octets(count);
-            input.extend(cut_body);
-        }
+        31 => append_cut_record(random, &mut input),
         _ => {
             let again = some_settings(random).octets();
             let count = random.pick(&[1, 30, 57, again.len()]);
@@ -393,8 +406,7 @@ fn likely_refused(random: &mut Random, run: &Run, number: u8) -> Record {
             length: run.some_length(random),
         },
         33 => {
-            let m = run.bench.settings().largest_frame as u16;
-            let length = random.pick(&[0, 63, m + 1, 65_535]);
+            let length = run.some_refused_length(random);
             let priority = run.some_priority(random);
             random.pick(&[
                 Record::StartData { priority, length },
@@ -413,88 +425,38 @@ fn likely_refused(random: &mut Random, run: &Run, number: u8) -> Record {
     }
 }
 
-/// A direction with 128 frames under way, and one frame more: 36, or 35 where it is of a paused
-/// priority.
-fn crowded(random: &mut Random, number: u8) -> Vec<u8> {
+/// A direction with 128 frames under way, and one frame more.
+fn crowded(random: &mut Random) -> Vec<u8> {
     loop {
-        let mut run = Run::new(crowdable_settings(random));
-        if let Some(record) = crowd(random, &mut run, number) {
-            let mut input = run.input;
-            record.write_to(&mut input);
+        let (run, record) = if random.once_in(2) {
+            let run = with_data_under_way(random);
+            let data = run.some_data(random);
+            (run, data)
+        } else {
+            (with_pfc_under_way(random), Record::StartPfc)
+        };
+        if let Some(input) = refused_in_time(random, run, record, 36) {
             return input;
         }
     }
 }
 
-/// Paths so long that 128 frames can be under way, rooms so tight that one frame is wanted.
-fn crowdable_settings(random: &mut Random) -> SettingsRecord {
-    loop {
-        let mut settings = settings_record::accepted_small(random);
-        settings.request_path = random.between(100_000, 300_000) as u32;
-        settings.data_path = random.between(100_000, 300_000) as u32;
-        settings.i = random.between(1, 84) as u32;
-        settings.t = 65_535;
-        let tight = settings.settings().unwanted_from(&settings.delays()) as u32;
-        settings.rooms = [tight; PRIORITIES];
-        if settings.settings().accept().is_ok() {
-            return settings;
+/// The run goes on in time alone until the record is refused with this number.
+fn refused_in_time(
+    random: &mut Random,
+    mut run: Run,
+    record: Record,
+    number: u8,
+) -> Option<Vec<u8>> {
+    for _ in 0..20 {
+        if refusal_of(&run, record) == Some(number) {
+            let mut input = run.input;
+            record.write_to(&mut input);
+            return Some(input);
         }
-    }
-}
-
-/// Starts frames and lets none arrive while that is allowed; the record refused in the end.
-fn crowd(random: &mut Random, run: &mut Run, number: u8) -> Option<Record> {
-    let enabled = random.pick(&run.enabled_priorities());
-    let of_enabled = start_smallest(enabled);
-    let of_another = start_smallest((enabled + random.between(1, 7) as u8) % 8);
-    let crowd_data = number == 35 || random.once_in(2);
-    if !crowd_data || number == 35 {
-        add_all(
-            run,
-            &[of_enabled, Record::Wait { n: 84 }, Record::DataArrives],
-        );
-    }
-    if number == 35 {
-        let pause = [
-            Record::StartPfc,
-            Record::Wait { n: 84 },
-            Record::PfcTakesEffect,
-        ];
-        add_all(run, &pause);
-    }
-    let start = if crowd_data {
-        of_another
-    } else {
-        Record::StartPfc
-    };
-    for _ in 0..6 * MOST_UNDER_WAY {
-        if refusal_of(run, start) == Some(36) {
-            let last = if number == 35 { of_enabled } else { start };
-            return (refusal_of(run, last) == Some(number)).then_some(last);
-        }
-        let n = run.longest_wait().min(84) as u16;
-        let added = run.add(start)
-            || (n > 0 && run.add(Record::Wait { n }))
-            || (crowd_data && run.add(Record::StartPfc))
-            || (crowd_data && run.add(Record::PfcTakesEffect));
-        if !added {
-            return None;
-        }
+        run.wait_to_some_moment(random);
     }
     None
-}
-
-fn start_smallest(priority: u8) -> Record {
-    Record::StartData {
-        priority,
-        length: 64,
-    }
-}
-
-fn add_all(run: &mut Run, records: &[Record]) {
-    for &record in records {
-        run.add(record);
-    }
 }
 
 /// The number with which this state refuses the record.

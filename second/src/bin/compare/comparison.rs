@@ -6,8 +6,9 @@ use second::hex::text_of_octets;
 use second::vectors::cases;
 
 use crate::bench_inputs::{self, BenchKind, REACHABLE_REFUSALS};
+use crate::both_hold::bench_pairs;
 use crate::commented::commented;
-use crate::other::{bench_answer, vectors_answer, Answer, Other};
+use crate::other::{bench_answer, Answer, Other};
 use crate::random::Random;
 use crate::shrink::shrink;
 use crate::tally::Tally;
@@ -23,27 +24,27 @@ pub enum Made {
 #[derive(Clone, Copy)]
 enum Turn {
     Bench(BenchKind),
-    RefusedLast,
+    OnPurpose,
     Vectors,
 }
 
 const ROUND: [Turn; 16] = [
     Turn::Bench(BenchKind::DeepRun),
-    Turn::RefusedLast,
+    Turn::OnPurpose,
     Turn::Vectors,
-    Turn::RefusedLast,
+    Turn::OnPurpose,
     Turn::Bench(BenchKind::LatestRun),
-    Turn::RefusedLast,
+    Turn::OnPurpose,
     Turn::Bench(BenchKind::DamagedRun),
-    Turn::RefusedLast,
+    Turn::OnPurpose,
     Turn::Bench(BenchKind::SettingsNearLimits),
-    Turn::RefusedLast,
+    Turn::OnPurpose,
     Turn::Bench(BenchKind::DeepRun),
-    Turn::RefusedLast,
+    Turn::OnPurpose,
     Turn::Bench(BenchKind::RandomRecords),
-    Turn::RefusedLast,
+    Turn::OnPurpose,
     Turn::Bench(BenchKind::RandomOctets),
-    Turn::RefusedLast,
+    Turn::OnPurpose,
 ];
 
 /// The large inputs come this seldom.
@@ -54,11 +55,9 @@ pub fn make_run(seed: u64, run: u64) -> Made {
     let mut random = Random::of_run(seed, run);
     match turn(run) {
         Turn::Bench(kind) => Made::Bench(kind, bench_inputs::make(&mut random, kind)),
-        Turn::RefusedLast => {
-            // Every second run, the numbers one after the other.
-            let turns = run / 2;
-            let number = REACHABLE_REFUSALS[(turns % REACHABLE_REFUSALS.len() as u64) as usize];
-            let kind = BenchKind::RefusedLast(number);
+        Turn::OnPurpose => {
+            // Every second run is one of these.
+            let kind = on_purpose(run / 2);
             Made::Bench(kind, bench_inputs::make(&mut random, kind))
         }
         Turn::Vectors => {
@@ -66,6 +65,16 @@ pub fn make_run(seed: u64, run: u64) -> Made {
             Made::Vectors(file, kinds)
         }
     }
+}
+
+/// By turns, a number is refused and a pair of an order line is met, each one after the other.
+fn on_purpose(turns: u64) -> BenchKind {
+    let place = (turns / 2) as usize;
+    if turns.is_multiple_of(2) {
+        return BenchKind::RefusedLast(REACHABLE_REFUSALS[place % REACHABLE_REFUSALS.len()]);
+    }
+    let pairs = bench_pairs();
+    BenchKind::BothHold(pairs[place % pairs.len()])
 }
 
 fn turn(run: u64) -> Turn {
@@ -110,27 +119,49 @@ enum Shown {
 
 /// Compares one run. Runs the other program has no part in are passed over.
 pub fn compare(other: &mut dyn Other, made: &Made, tally: &mut Tally) -> Option<Difference> {
-    let difference = match made {
-        Made::Bench(kind, input) if other.has_bench() => {
-            let ours = tally.count_bench(*kind, input).to_string().into_bytes();
-            (other.bench(input) != Ok(ours)).then(|| Difference {
+    let takes_part = match made {
+        Made::Bench(..) => other.has_bench(),
+        Made::Vectors(..) => other.has_vectors(),
+    };
+    if !takes_part {
+        return None;
+    }
+    let ours = our_answer(made, tally);
+    let difference = difference(other, made, &ours);
+    tally.differed += u64::from(difference.is_some());
+    difference
+}
+
+/// What this library prints for the run, which is counted.
+pub fn our_answer(made: &Made, tally: &mut Tally) -> Vec<u8> {
+    match made {
+        Made::Bench(kind, input) => tally.count_bench(*kind, input).to_string().into_bytes(),
+        Made::Vectors(file, kinds) => tally.count_vectors(kinds, file),
+    }
+}
+
+/// How the other program's answer differs from ours, if it does.
+pub fn difference(other: &mut dyn Other, made: &Made, ours: &[u8]) -> Option<Difference> {
+    match made {
+        Made::Bench(kind, input) => {
+            let differs = !other.bench(input).is_ok_and(|theirs| theirs == ours);
+            differs.then(|| Difference {
                 kind: kind.text(),
                 shown: Shown::Bench {
                     input: input.clone(),
                 },
             })
         }
-        Made::Vectors(file, kinds) if other.has_vectors() => {
-            tally.count_vectors(kinds);
-            compare_vectors(file, kinds, other.vectors(file))
-        }
-        _ => None,
-    };
-    tally.differed += u64::from(difference.is_some());
-    difference
+        Made::Vectors(file, kinds) => compare_vectors(file, kinds, ours, other.vectors(file)),
+    }
 }
 
-fn compare_vectors(file: &[u8], kinds: &[CaseKind], theirs: Answer) -> Option<Difference> {
+fn compare_vectors(
+    file: &[u8],
+    kinds: &[CaseKind],
+    ours: &[u8],
+    theirs: Answer,
+) -> Option<Difference> {
     let of_file = |why: String| Difference {
         kind: "vector file",
         shown: Shown::File(why),
@@ -139,11 +170,10 @@ fn compare_vectors(file: &[u8], kinds: &[CaseKind], theirs: Answer) -> Option<Di
         Ok(theirs) => theirs,
         Err(why) => return Some(of_file(why)),
     };
-    let ours = vectors_answer(file);
     if ours == theirs {
         return None;
     }
-    let (our_lines, their_lines) = (lines(&ours), lines(&theirs));
+    let (our_lines, their_lines) = (lines(ours), lines(&theirs));
     let place = (0..kinds.len()).find(|&n| our_lines.get(n) != their_lines.get(n));
     let Some(place) = place else {
         let why = format!(

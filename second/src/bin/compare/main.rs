@@ -1,8 +1,10 @@
 //! Compares another program with this library on many inputs made from a seed.
 
 mod bench_inputs;
+mod both_hold;
 mod commented;
 mod comparison;
+mod crowds;
 mod other;
 mod random;
 mod run_under_way;

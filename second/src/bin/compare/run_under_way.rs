@@ -120,6 +120,12 @@ impl Run {
         }
     }
 
+    /// A length outside 64-M.
+    pub fn some_refused_length(&self, random: &mut Random) -> u16 {
+        let m = self.bench.settings().largest_frame as u16;
+        random.pick(&[0, 63, m + 1, 65_535])
+    }
+
     /// A data frame of an enabled priority, mostly.
     pub fn some_data(&self, random: &mut Random) -> Record {
         Record::StartData {
@@ -179,6 +185,13 @@ impl Run {
         Record::Wait { n: n as u16 }
     }
 
+    /// Nothing but time passes, to some moment at which something may be decided.
+    pub fn wait_to_some_moment(&mut self, random: &mut Random) -> bool {
+        let most = self.longest_wait().min(self.time_left).min(65_535);
+        let n = self.to_some_moment(random, most) as u16;
+        self.add(Record::Wait { n })
+    }
+
     /// How far the next moment is at which something may be decided, if it is within reach.
     fn to_some_moment(&self, random: &mut Random, most: u64) -> u64 {
         let bench = &self.bench;
@@ -229,7 +242,7 @@ impl Run {
     /// Brings the run to a state in which the rule of this number is about to be felt.
     pub fn bring_to_an_edge(&mut self, random: &mut Random, number: u8) {
         match (number, random.between(0, 3)) {
-            (38 | 40, 0) => self.make_wanted(random),
+            (38, 0) | (40, 0 | 3) => self.make_wanted(random),
             (38 | 40, 1) => {
                 self.make_due(random);
                 self.change_a_mark_again(random);
@@ -284,6 +297,15 @@ impl Run {
         self.add(data);
         let length = self.some_length(random);
         self.add(Record::StartOther { length });
+    }
+
+    /// PFC is due for more than G, and a frame that started in time still holds B's wire.
+    pub fn make_busy_past_g(&mut self, random: &mut Random) {
+        self.make_due(random);
+        self.wait_past_g(0);
+        let length = self.some_length(random);
+        self.add(Record::StartOther { length });
+        self.wait_past_g(random.pick(&[1, 1, 2]));
     }
 
     /// Lets everything arrive and start until nothing is under way or due.

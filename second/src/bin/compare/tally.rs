@@ -1,17 +1,21 @@
 //! Counts what the runs were and what they reached.
 
-use std::collections::BTreeMap;
+use std::collections::{BTreeMap, BTreeSet};
 
 use second::bench::{run_watched, Bench, Record, Report};
+use second::order::{with_pairs_met, Pair, ALL_LINES};
 use second::PRIORITIES;
 
 use crate::bench_inputs::{BenchKind, REACHABLE_REFUSALS};
+use crate::other::vectors_answer;
 use crate::vector_inputs::CaseKind;
 
 #[derive(Default)]
 pub struct Tally {
     by_kind: BTreeMap<&'static str, u64>,
     by_refusal: BTreeMap<u8, u64>,
+    /// Runs that met a pair: a vector file with many such cases is one.
+    by_pair: BTreeMap<Pair, u64>,
     vector_files: u64,
     paused: u64,
     refreshed: u64,
@@ -61,7 +65,9 @@ impl Tally {
     /// Counts a bench input; the answer is this library's report.
     pub fn count_bench(&mut self, kind: BenchKind, input: &[u8]) -> Report {
         let mut seen = Seen::default();
-        let report = run_watched(input, |record, bench| seen.see(record, bench));
+        let work = || run_watched(input, |record, bench| seen.see(record, bench));
+        let (report, met) = with_pairs_met(work);
+        self.count_pairs(met);
         *self.by_kind.entry(kind.text()).or_default() += 1;
         if let Some(refusal) = report.refusal {
             *self.by_refusal.entry(refusal.number()).or_default() += 1;
@@ -85,10 +91,20 @@ impl Tally {
         self.promise_broken += u64::from(broken);
     }
 
-    pub fn count_vectors(&mut self, kinds: &[CaseKind]) {
+    /// Counts a vector file; the answer is what this library prints.
+    pub fn count_vectors(&mut self, kinds: &[CaseKind], file: &[u8]) -> Vec<u8> {
         self.vector_files += 1;
         for kind in kinds {
             *self.by_kind.entry(kind.text()).or_default() += 1;
+        }
+        let (answer, met) = with_pairs_met(|| vectors_answer(file));
+        self.count_pairs(met);
+        answer
+    }
+
+    fn count_pairs(&mut self, met: BTreeSet<Pair>) {
+        for pair in met {
+            *self.by_pair.entry(pair).or_default() += 1;
         }
     }
 
@@ -106,6 +122,7 @@ impl Tally {
         for number in others.filter(|number| !REACHABLE_REFUSALS.contains(number)) {
             println!("  {number} (not expected): {}", self.reached(*number));
         }
+        self.print_pairs();
         println!("bench runs with a pause: {}", self.paused);
         println!("bench runs with a resume: {}", self.resumed);
         println!(
@@ -120,6 +137,23 @@ impl Tally {
         println!("highest worst: {whole}.{tenth} % of its headroom");
         println!("runs that break the promise: {}", self.promise_broken);
         println!("differed: {}", self.differed);
+    }
+
+    fn print_pairs(&self) {
+        println!("runs that met both of a pair of an order line, the first two that held there:");
+        for line in ALL_LINES {
+            let count = |pair: &Pair| self.by_pair.get(pair).copied().unwrap_or(0);
+            let pairs = line.pairs().into_iter();
+            let counts: Vec<String> = pairs
+                .map(|pair| format!("{pair}: {}", count(&pair)))
+                .collect();
+            println!("  {}: {}", line.text(), counts.join(", "));
+        }
+        for (pair, count) in &self.by_pair {
+            if !pair.line.pairs().contains(pair) {
+                println!("  {}: {pair} (not expected): {count}", pair.line.text());
+            }
+        }
     }
 
     fn reached(&self, number: u8) -> u64 {

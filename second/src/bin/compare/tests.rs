@@ -2,11 +2,13 @@
 
 use second::bench::{run, LONGEST_INPUT};
 use second::hex::octets_of_text;
+use second::order::with_pairs_met;
 use second::refusal::Refusal;
 use second::slips::Slip;
 use second::vectors::cases;
 
 use crate::bench_inputs::{make, record_starts, BenchKind, REACHABLE_REFUSALS};
+use crate::both_hold::bench_pairs;
 use crate::commented::commented;
 use crate::comparison::{compare, make_run};
 use crate::other::{Other, SlippedLibrary};
@@ -51,6 +53,19 @@ fn runs_refused_on_purpose_reach_their_number() {
             let input = make(&mut random, BenchKind::RefusedLast(number));
             let reached = run(&input).refusal.map(Refusal::number);
             assert_eq!(reached, Some(number), "seed {seed}");
+        }
+    }
+}
+
+#[test]
+fn inputs_made_for_a_pair_meet_it() {
+    for pair in bench_pairs() {
+        for seed in 0..3 {
+            let input = make(&mut Random::new(seed), BenchKind::BothHold(pair));
+            let (report, met) = with_pairs_met(|| run(&input));
+            assert!(met.contains(&pair), "{pair:?}, seed {seed}");
+            let given = report.refusal.map(Refusal::number);
+            assert_eq!(given, Some(pair.earlier), "{pair:?}, seed {seed}");
         }
     }
 }

@@ -266,8 +266,8 @@ fn choice(random: &mut Random) -> Vec<u8> {
         }
         random.pick(&of_class)
     });
-    let place = random.between(0, 7) as usize;
-    if random.once_in(4) {
+    for _ in 0..random.pick(&[0, 0, 0, 1, 2]) {
+        let place = random.between(0, 7) as usize;
         heads[place] = random.pick(&[0, 3, 7, 8, 9, 255]);
     }
     let place = random.between(0, 7) as usize;
@@ -290,7 +290,7 @@ fn headroom(random: &mut Random) -> Vec<u8> {
     }
     let halt_limit = numbers[0] * 6_144 / 10_000;
     numbers[9] = random.edge_or_between(&[0, halt_limit], 0, halt_limit);
-    for _ in 0..random.pick(&[0, 0, 1, 1, 2]) {
+    for _ in 0..random.pick(&[0, 0, 1, 2, 2]) {
         spoil(random, &mut numbers, halt_limit);
     }
     let mut case = vec![0x05];

@@ -3,9 +3,12 @@ use mathlib.Core.Path.{sym, ap, _∙_}
 use native.Mathlib.Omega.{arith}
 use denote.Ref.{now}
 use Rattle.records.proofs.Decoding.{decoded-nonzero}
-use Rattle.bench_steps.proofs.Answered.{answers-asked, octets-answers}
-use Rattle.bench_steps.specs.Memory.{memoryOf}
-use Rattle.bench_steps.specs.declared.state.Bench.{Bench}
+use Rattle.bench_memory.proofs.Answered.{answers-asked, octets-answers}
+use Rattle.bench_memory.proofs.EachKind.{start-data-answers, arrive-answers, start-other-answers}
+use Rattle.bench_memory.proofs.EachKind.{start-pfc-answers, take-effect-answers, take-octets-answers}
+use Rattle.bench_memory.proofs.WaitLaws.{wait-answers}
+use Rattle.bench_memory.specs.Memory.{memoryOf}
+use Rattle.bench_state.specs.declared.Stepped.{Stepped}
 use borrow.Author.Needs.{needs}
 use Rattle.bench_steps.proofs.step.asked.Statement.{statement}
 use Rattle.bench_steps.proofs.step.asked.Tie as tie
@@ -47,9 +50,7 @@ enum-told-3 : tie.Need-enum-told-3
 enum-told-3 c = search needs
 
 take-effect-requires : tie.Need-take-effect-requires
-take-effect-requires c κs =
-    let pre' = c .before .before .before .before .before .before .before .before .before .before .pre in
-    omega (arith, pre' .toA .slots)
+take-effect-requires c κs = search needs
 
 enum-known-asked-4 : tie.Need-enum-known-asked-4
 enum-known-asked-4 c = search needs
@@ -77,7 +78,9 @@ returns c =
     let wait-for' = c .wait-for in
     let pre' = c .before .before .before .before .before .before .before .before .before .before .before .before .pre in
     let a = args' in
-    answers-asked (sym (decode' .ensures) ∙ asked' .given .1) (wait-for' .ensures (now (a .numbers)) (now (a .data-slots)) (now (a .pfc-slots)) (pre'))
+    answers-asked (sym (decode' .ensures .1) ∙ asked' .given .1)
+    (wait-answers (a .watch) (a .bench) (now (a .numbers)) (now (a .data-ends)) (now (a .data-slots)) (now (a .pfc-ends)) (now (a .pfc-slots))
+    _ (pre') (wait-for' .ensures))
 
 same-length-3 : tie.Need-same-length-3
 same-length-3 c = search needs
@@ -94,7 +97,10 @@ returns-2 c =
     let start-data' = c .before .before .before .before .start-data in
     let pre' = there .before .before .before .before .pre in
     let a = args' in
-    answers-asked (sym (decode' .ensures) ∙ asked2' .given .1) (start-data' .ensures (now (a .numbers)) (now (a .pfc-ends)) (now (a .pfc-slots)) (pre'))
+    answers-asked (sym (decode' .ensures .1) ∙ asked2' .given .1)
+    (start-data-answers (a .watch) (a .bench) (now (a .numbers)) (now (a .data-ends)) (now (a .data-slots)) (now (a .pfc-ends)) (now (a .pfc-slots))
+    (pre') _ _
+    (start-data' .ensures .0) (start-data' .ensures .1))
 
 same-length-5 : tie.Need-same-length-5
 same-length-5 c = search needs
@@ -111,7 +117,10 @@ returns-3 c =
     let arrive' = c .before .before .before .before .arrive in
     let pre' = there .before .before .before .before .pre in
     let a = args' in
-    answers-asked (sym (decode' .ensures) ∙ enum-told' .given .1) (arrive' .ensures (now (a .pfc-ends)) (now (a .pfc-slots)) (pre'))
+    answers-asked (sym (decode' .ensures .1) ∙ enum-told' .given .1)
+    (arrive-answers (a .watch) (a .bench) (now (a .numbers)) (now (a .data-ends)) (now (a .data-slots)) (now (a .pfc-ends)) (now (a .pfc-slots))
+    (pre')
+    (arrive' .ensures .0) (arrive' .ensures .1) (arrive' .ensures .2))
 
 returns-4 : tie.Need-returns-4
 returns-4 c =
@@ -121,8 +130,9 @@ returns-4 c =
     let start-other' = c .start-other in
     let pre' = c .before .before .before .before .before .before .before .before .before .before .pre in
     let a = args' in
-    answers-asked (sym (decode' .ensures) ∙ asked3' .given .1)
-    (start-other' .ensures (now (a .numbers)) (now (a .data-ends)) (now (a .data-slots)) (now (a .pfc-ends)) (now (a .pfc-slots)) (pre'))
+    answers-asked (sym (decode' .ensures .1) ∙ asked3' .given .1)
+    (start-other-answers (a .watch) (a .bench) (now (a .numbers)) (now (a .data-ends)) (now (a .data-slots)) (now (a .pfc-ends)) (now (a .pfc-slots))
+    (pre') _ (start-other' .ensures))
 
 same-length-7 : tie.Need-same-length-7
 same-length-7 c = search needs
@@ -139,7 +149,10 @@ returns-5 c =
     let start-pfc' = c .before .before .before .before .start-pfc in
     let pre' = there .before .before .before .pre in
     let a = args' in
-    answers-asked (sym (decode' .ensures) ∙ enum-told2' .given .1) (start-pfc' .ensures (now (a .numbers)) (now (a .data-ends)) (now (a .data-slots)) (pre'))
+    answers-asked (sym (decode' .ensures .1) ∙ enum-told2' .given .1)
+    (start-pfc-answers (a .watch) (a .bench) (now (a .numbers)) (now (a .data-ends)) (now (a .data-slots)) (now (a .pfc-ends)) (now (a .pfc-slots))
+    (pre')
+    (start-pfc' .ensures .0) (start-pfc' .ensures .1))
 
 same-length-9 : tie.Need-same-length-9
 same-length-9 c = search needs
@@ -156,7 +169,10 @@ returns-6 c =
     let take-effect' = c .before .before .before .before .take-effect in
     let pre' = there .before .before .before .pre in
     let a = args' in
-    answers-asked (sym (decode' .ensures) ∙ enum-told3' .given .1) (take-effect' .ensures (now (a .numbers)) (now (a .data-ends)) (now (a .data-slots)) (pre'))
+    answers-asked (sym (decode' .ensures .1) ∙ enum-told3' .given .1)
+    (take-effect-answers (a .watch) (a .bench) (now (a .numbers)) (now (a .data-ends)) (now (a .data-slots)) (now (a .pfc-ends)) (now (a .pfc-slots))
+    (pre')
+    (take-effect' .ensures .0) (take-effect' .ensures .1))
 
 returns-7 : tie.Need-returns-7
 returns-7 c =
@@ -166,8 +182,10 @@ returns-7 c =
     let take-octets' = c .take-octets in
     let pre' = c .before .before .before .before .before .before .before .before .before .before .before .pre in
     let a = args' in
-    answers-asked (sym (decode' .ensures) ∙ asked4' .given .1)
-    (take-octets' .ensures (now (a .data-ends)) (now (a .data-slots)) (now (a .pfc-ends)) (now (a .pfc-slots)) (pre'))
+    answers-asked (sym (decode' .ensures .1) ∙ asked4' .given .1)
+    (take-octets-answers (a .watch) (a .bench) (now (a .numbers)) (now (a .data-ends)) (now (a .data-slots)) (now (a .pfc-ends)) (now (a .pfc-slots))
+    (pre') _ _
+    (take-octets' .ensures .0) (take-octets' .ensures .1))
 
 returns-8 : tie.Need-returns-8
 returns-8 c =
@@ -177,11 +195,12 @@ returns-8 c =
     let refused' = c .refused in
     let a = args' in
     let m = memoryOf (a .bench) (now (a .numbers)) (now (a .data-ends)) (now (a .data-slots)) (now (a .pfc-ends)) (now (a .pfc-slots)) in
-    let is = sym (decode' .ensures) ∙ asked5' .given .1 in
+    let is = sym (decode' .ensures .1) ∙ asked5' .given .1 in
     answers-asked is
-    (octets-answers (a .watch) m _ _ _ (decoded-nonzero _ _ is) (refused' .ensures .0)
-    (ap (λ (b : Bench). memoryOf b (now (a .numbers)) (now (a .data-ends)) (now (a .data-slots)) (now (a .pfc-ends)) (now (a .pfc-slots)))
-    (refused' .ensures .1)))
+    (octets-answers (a .watch) m _ _ _ (decoded-nonzero _ _ is) (ap (λ (x : Stepped). x .outcome) (refused' .ensures))
+    (ap
+    (λ (x : Stepped). memoryOf (x .bench) (now (a .numbers)) (now (a .data-ends)) (now (a .data-slots)) (now (a .pfc-ends)) (now (a .pfc-slots)))
+    (refused' .ensures)))
 
 pub asked-spec : {M : Type 1} → statement M
 asked-spec =

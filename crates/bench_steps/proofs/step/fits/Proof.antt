@@ -1,7 +1,7 @@
 -- `bench_steps::step::fits` meets its contract. Assumes nothing.
 use Rattle.ground.proofs.Tests.{tests}
 use Rattle.ground.specs.Pick.{pick}
-use Rattle.bench_steps.specs.Memory.{fitsIn}
+use Rattle.bench_memory.specs.Memory.{fitsIn}
 use Rattle.bench_steps.proofs.step.fits.Statement.{statement}
 use Rattle.bench_steps.proofs.step.fits.Tie as tie
 

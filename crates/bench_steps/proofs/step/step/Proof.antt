@@ -2,10 +2,10 @@
 use mathlib.Core.Path.{sym, ap, _∙_}
 use denote.Ref.{now}
 use borrow.Author.Tests.{not-true, not-false}
-use Rattle.bench_steps.specs.Memory.{laneFits}
-use Rattle.bench_steps.proofs.Stepping.{unfit-to-b, unfit-to-a, fit-lent, fit-answers}
-use Rattle.bench_steps.specs.Memory.{memoryOf}
-use Rattle.bench_steps.specs.declared.state.Bench.{Bench}
+use Rattle.bench_memory.specs.Memory.{laneFits}
+use Rattle.bench_memory.proofs.Stepping.{unfit-to-b, unfit-to-a, fit-lent, fit-answers}
+use Rattle.bench_memory.specs.Memory.{memoryOf}
+use Rattle.bench_state.specs.declared.Stepped.{Stepped}
 use borrow.Author.Needs.{needs}
 use Rattle.bench_steps.proofs.step.step.Statement.{statement}
 use Rattle.bench_steps.proofs.step.step.Tie as tie
@@ -25,9 +25,11 @@ returns c =
     let refused' = c .refused in
     let a = args' in
     let m = memoryOf (a .bench) (now (a .numbers)) (now (a .data-ends)) (now (a .data-slots)) (now (a .pfc-ends)) (now (a .pfc-slots)) in
-    unfit-to-b (a .watch) m (now (a .record)) _ _ (sym (fits2' .ensures) ∙ not-true (fits2' .result) (if1' .taken)) (refused' .ensures .0)
-    (ap (λ (b : Bench). memoryOf b (now (a .numbers)) (now (a .data-ends)) (now (a .data-slots)) (now (a .pfc-ends)) (now (a .pfc-slots)))
-    (refused' .ensures .1))
+    unfit-to-b (a .watch) m (now (a .record)) (sym (fits2' .ensures) ∙ not-true (fits2' .result) (if1' .taken))
+    (ap (λ (x : Stepped). x .outcome) (refused' .ensures))
+    (ap
+    (λ (x : Stepped). memoryOf (x .bench) (now (a .numbers)) (now (a .data-ends)) (now (a .data-slots)) (now (a .pfc-ends)) (now (a .pfc-slots)))
+    (refused' .ensures))
 
 fits-requires-2 : tie.Need-fits-requires-2
 fits-requires-2 c κs = search needs
@@ -46,10 +48,11 @@ returns-2 c =
     let refused2' = c .refused2 in
     let a = args' in
     let m = memoryOf (a .bench) (now (a .numbers)) (now (a .data-ends)) (now (a .data-slots)) (now (a .pfc-ends)) (now (a .pfc-slots)) in
-    unfit-to-a (a .watch) m (now (a .record)) _ _ (sym (fits2' .ensures) ∙ not-false (fits2' .result) (if1' .left))
-    (sym (fits3' .ensures) ∙ not-true (fits3' .result) (if2' .taken)) (refused2' .ensures .0)
-    (ap (λ (b : Bench). memoryOf b (now (a .numbers)) (now (a .data-ends)) (now (a .data-slots)) (now (a .pfc-ends)) (now (a .pfc-slots)))
-    (refused2' .ensures .1))
+    unfit-to-a (a .watch) m (now (a .record)) (sym (fits2' .ensures) ∙ not-false (fits2' .result) (if1' .left))
+    (sym (fits3' .ensures) ∙ not-true (fits3' .result) (if2' .taken)) (ap (λ (x : Stepped). x .outcome) (refused2' .ensures))
+    (ap
+    (λ (x : Stepped). memoryOf (x .bench) (now (a .numbers)) (now (a .data-ends)) (now (a .data-slots)) (now (a .pfc-ends)) (now (a .pfc-slots)))
+    (refused2' .ensures))
 
 asked-requires : tie.Need-asked-requires
 unfolding laneFits
@@ -92,7 +95,7 @@ returns-3 c =
     let lent =
     fit-lent (a .watch) m (now (a .record)) (sym (fits2' .ensures) ∙ not-false (fits2' .result) (if1' .left))
     (sym (fits3' .ensures) ∙ not-false (fits3' .result) (if2' .left)) in
-    fit-answers (a .watch) m (now (a .record)) _ _ lent (asked' .ensures)
+    fit-answers (a .watch) m (now (a .record)) lent (asked' .ensures)
 
 pub step-spec : {M : Type 1} → statement M
 step-spec =

@@ -1,0 +1,3 @@
+-- Laws of kind 05.
+pub mod Decided
+pub mod Room

@@ -1,0 +1,4 @@
+-- Laws of what a step answers.
+pub mod Decided
+pub mod Either
+pub mod Ended

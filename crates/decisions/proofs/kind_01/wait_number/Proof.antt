@@ -1,0 +1,22 @@
+-- `decisions::kind_01::wait_number` meets its contract: each return is the order's number for the tests that it passed. Assumes nothing.
+use mathlib.Core.Path.{sym, _∙_}
+use Rattle.ground.specs.First.{firstOf}
+use Rattle.ground.proofs.Pick.{pick-yes, pick-no}
+use Rattle.decisions.specs.Chains.{waitNumber}
+use Rattle.decisions.proofs.kind_01.wait_number.Statement.{statement}
+use Rattle.decisions.proofs.kind_01.wait_number.Tie as tie
+
+returns : tie.Need-returns
+unfolding waitNumber firstOf
+returns c = sym (pick-yes _ _ (c .if1 .taken))
+
+returns-2 : tie.Need-returns-2
+unfolding waitNumber firstOf
+returns-2 c = sym (pick-no _ _ (c .before .if1 .left) ∙ pick-yes _ _ (c .if2 .taken))
+
+returns-3 : tie.Need-returns-3
+unfolding waitNumber firstOf
+returns-3 c = sym (pick-no _ _ (c .before .if1 .left) ∙ pick-no _ _ (c .if2 .left))
+
+pub wait-number-spec : {M : Type 1} → statement M
+wait-number-spec = tie.close (tie.spec returns returns-2 returns-3)

@@ -1,0 +1,3 @@
+-- Laws of a run's loop.
+pub mod Decided
+pub mod Following

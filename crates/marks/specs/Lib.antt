@@ -1,0 +1,2 @@
+-- What the contracts and laws of the marks cite.
+pub mod Marks

@@ -1,0 +1,2 @@
+-- What the contracts of the remarks cite.
+pub mod Errors

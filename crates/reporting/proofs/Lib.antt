@@ -1,0 +1,2 @@
+-- Determinacy of the report.
+pub mod Decided

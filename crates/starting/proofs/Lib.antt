@@ -1,0 +1,3 @@
+-- Laws of the kinds that start a frame.
+pub mod Decided
+pub mod Room

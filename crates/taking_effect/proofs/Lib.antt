@@ -1,0 +1,2 @@
+-- Determinacy of kind 06.
+pub mod Decided

@@ -1,0 +1,3 @@
+-- Laws of a wait.
+pub mod Decided
+pub mod Far
