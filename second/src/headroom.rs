@@ -1,4 +1,5 @@
-//! The headroom sum of Annex N as document 01 states it, and Table N-1.
+//! The headroom sum of Annex N as document 01 states it, with light's speed as document 02's L1
+//! corrects it, and Table N-1.
 
 use crate::frame::is_no_largest_frame;
 use crate::order::{refuse_first, Line};
@@ -12,12 +13,19 @@ const WIRE_OVERHEAD: OctetTimes = OctetTimes(20);
 /// The wire time of a PFC frame: 60 octets, 4 of FCS, 20 around them.
 pub const PFC_WIRE_TIME: OctetTimes = OctetTimes(84);
 
-/// Light is taken as 300 metres per microsecond.
-const LIGHT_METRES_PER_MICROSECOND: u64 = 300;
+/// Light's speed (document 02, L1: 299.792458 metres per microsecond).
+const LIGHT_METRES_PER_SECOND: u128 = 299_792_458;
+
+/// A rate in Mb/s is so many bits per second for each.
+const BITS_PER_MEGABIT: u128 = 1_000_000;
+
+/// The percentage at which a signal is as fast as light.
+const SPEED_OF_LIGHT_PERCENTAGE: u128 = 100;
 
 const LONGEST_LINK_METRES: u64 = 100_000;
 const LONGEST_DELAY: BitTimes = BitTimes(1_048_576);
-const LONGEST_PATH: BitTimes = BitTimes(134_217_728);
+/// Refusal 14 is for a path above it.
+pub const LONGEST_PATH: BitTimes = BitTimes(134_217_728);
 
 /// Each rate in Mb/s with its halt delay limit, 614.4 ns.
 const HALT_LIMITS: [(u64, Quanta); 3] = [
@@ -47,6 +55,23 @@ pub struct Inputs {
     pub a_transmit: BitTimes,
     pub a_receive: BitTimes,
     pub halt: BitTimes,
+}
+
+impl Inputs {
+    /// The bits in flight on the cable, whatever is refused.
+    pub fn link(&self) -> BitTimes {
+        link_bits(self.metres, self.rate, self.percentage)
+    }
+
+    /// From B's request to A's silence, with this link.
+    pub fn request_path(&self, link: BitTimes) -> BitTimes {
+        self.b_transmit + link + self.a_receive + self.halt
+    }
+
+    /// From A's frame to B, with this link.
+    pub fn data_path(&self, link: BitTimes) -> BitTimes {
+        self.a_transmit + link + self.b_receive
+    }
 }
 
 /// The delays of one link in octet times, each rounded up apart.
@@ -99,9 +124,9 @@ pub struct Headroom {
 /// The headroom sum, in bits and in octet times.
 pub fn calculate(inputs: &Inputs) -> Result<Headroom, Refusal> {
     let halt_limit = halt_limit(inputs.rate);
-    let link = link_bits(inputs.metres, inputs.rate, inputs.percentage);
-    let request_path = inputs.b_transmit + link + inputs.a_receive + inputs.halt;
-    let data_path = inputs.a_transmit + link + inputs.b_receive;
+    let link = inputs.link();
+    let request_path = inputs.request_path(link);
+    let data_path = inputs.data_path(link);
     refuse_first!(
         Line::Headroom,
         [
@@ -190,18 +215,41 @@ pub fn is_path_too_long(path: BitTimes) -> bool {
     path > LONGEST_PATH
 }
 
-/// Bits in flight on the cable, rounded up. Of inputs that 10, 11 and 12 refuse the number decides
-/// nothing but whether 14 holds as well: none is wrapped, and a signal without speed has no bits.
+/// Bits in flight on the cable: metres × rate × 100,000,000 / (percentage × 299,792,458), rounded
+/// up. Of inputs that 10, 11 and 12 refuse the number decides nothing but whether 14 holds as well:
+/// none is wrapped, and a signal without speed has no bits. A dividend that stays at the end of its
+/// 128 bits still gives more than 2^35 bits by any divisor, which no path may have.
 fn link_bits(metres: u64, rate: u64, percentage: u64) -> BitTimes {
     if percentage == 0 {
         return BitTimes(0);
     }
-    let dividend = metres.saturating_mul(rate).saturating_mul(100);
-    let divisor = percentage.saturating_mul(LIGHT_METRES_PER_MICROSECOND);
-    if slipped(Slip::LinkBitsRoundedDown) {
-        return BitTimes(dividend / divisor);
+    // A signal takes 100 / percentage times as long as light.
+    let mut slower = (SPEED_OF_LIGHT_PERCENTAGE, u128::from(percentage));
+    if slipped(Slip::PercentageOnWrongSide) {
+        slower = (slower.1, slower.0);
     }
-    BitTimes(dividend.div_ceil(divisor))
+    let dividend = (u128::from(metres) * u128::from(rate))
+        .saturating_mul(BITS_PER_MEGABIT)
+        .saturating_mul(slower.0);
+    let divisor = slower.1 * light_metres_per_second();
+    let mut bits = dividend.div_ceil(divisor);
+    if slipped(Slip::LinkBitsRoundedDown) {
+        bits = dividend / divisor;
+    }
+    if slipped(Slip::LinkBitsOneMore) {
+        bits = dividend / divisor + 1;
+    }
+    BitTimes(u64::try_from(bits).unwrap_or(u64::MAX))
+}
+
+fn light_metres_per_second() -> u128 {
+    if slipped(Slip::LightAt300) {
+        return 300_000_000;
+    }
+    if slipped(Slip::LightCutShort) {
+        return 299_792_000;
+    }
+    LIGHT_METRES_PER_SECOND
 }
 
 /// A row of Table N-1: what an interface takes for transmit and receive together.

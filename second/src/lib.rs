@@ -1,7 +1,8 @@
-//! Document 01 as an independent second program: the stations, the headroom sum and the bench.
+//! Document 01 and document 02's L1 as an independent second program: the stations, the headroom sum
+//! and the bench.
 //!
-//! Written from document 01 and its settled readings alone, by someone who has not read the Rattle
-//! code or its definitions.
+//! Written from those and their settled readings alone, by someone who has not read the Rattle code
+//! or its definitions.
 
 pub mod bench;
 pub mod frame;

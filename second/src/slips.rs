@@ -1,6 +1,7 @@
 //! The internal switch of `compare --self-test`: it makes the library break one rule on purpose.
 //!
-//! No other program touches it, so everywhere else each rule stands as document 01 says.
+//! No other program touches it, so everywhere else each rule stands as document 01 and document 02's
+//! L1 say.
 
 use std::cell::Cell;
 
@@ -43,7 +44,11 @@ slips! {
     EnableSettingIgnored: "timers of priorities not enabled are set too",
     IndicationsSaturate: "the count of indications stops at its end",
     PausedHeadStopsChoice: "a paused head holds back the lower classes too",
+    LightAt300: "light is taken as 300 metres per microsecond",
+    LightCutShort: "light is cut to whole metres per millisecond, 299,792",
+    PercentageOnWrongSide: "the percentage stands on the wrong side of the link's fraction",
     LinkBitsRoundedDown: "link bits are rounded down",
+    LinkBitsOneMore: "link bits are one more where nothing is to be rounded",
     HaltAsStationDelay: "14 tries the halt delay as a station delay",
     RoundedTogether: "G, P and D are rounded as one sum",
     FirstQuantumWhole: "refusal 16 without the extra 64",

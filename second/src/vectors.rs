@@ -115,8 +115,17 @@ fn choice(mut body: Octets) -> Option<String> {
     })
 }
 
-fn headroom_sum(mut body: Octets) -> Option<String> {
-    let inputs = Inputs {
+/// What a case asks the headroom of, if it asks that and is long enough.
+pub fn headroom_inputs(case: &[u8]) -> Option<Inputs> {
+    let mut body = Octets::new(case);
+    match body.number1() {
+        Some(0x05) => take_headroom_inputs(&mut body),
+        _ => None,
+    }
+}
+
+fn take_headroom_inputs(body: &mut Octets) -> Option<Inputs> {
+    Some(Inputs {
         rate: body.number8()?,
         metres: body.number8()?,
         percentage: body.number8()?,
@@ -127,7 +136,11 @@ fn headroom_sum(mut body: Octets) -> Option<String> {
         a_transmit: BitTimes(body.number8()?),
         a_receive: BitTimes(body.number8()?),
         halt: BitTimes(body.number8()?),
-    };
+    })
+}
+
+fn headroom_sum(mut body: Octets) -> Option<String> {
+    let inputs = take_headroom_inputs(&mut body)?;
     Some(match headroom::calculate(&inputs) {
         Err(refusal) => format!("headroom {}", refusal.number()),
         Ok(sum) => format!(

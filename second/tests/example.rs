@@ -1,4 +1,5 @@
-//! Document 01's example: its input and its output, through the library and through the program.
+//! Document 01's example: its input and its output, through the library and through the program; and
+//! the example of 80 km of fibre.
 
 mod common;
 
@@ -53,6 +54,36 @@ fn the_program_reads_65536_octets_and_not_one_more() {
     assert_eq!(
         output_of(program, &input),
         "steps 0 time 0 refusal 45 at 0\n"
+    );
+}
+
+/// The paths in bits of 80 km of fibre as they stand in the example's settings, by L1 and by light
+/// at 300 metres per microsecond: 4,026,887 and 4,020,743, then 4,024,132 and 4,017,988.
+const PATHS: &str = "003D7207 003D5A07";
+const PATHS_BY_300: &str = "003D6744 003D4F44";
+
+/// Each room as it stands there, headroom + M: 1,010,103 + 2,000, and 1,009,415 + 2,000.
+const ROOM: &str = "000F7187";
+const ROOM_BY_300: &str = "000F6ED7";
+
+#[test]
+fn over_80_km_of_fibre_only_the_new_paths_let_the_request_take_as_long_as_it_takes() {
+    let text = include_str!("../../examples/fibre_80_km.txt");
+    let report = |from: &str, to: &str| {
+        assert!(text.contains(from));
+        let changed = text.replace(from, to);
+        second::bench::run(&octets_of_text(changed.as_bytes()).unwrap()).to_string()
+    };
+    assert_eq!(
+        report(PATHS, PATHS),
+        include_str!("../../examples/fibre_80_km.out")
+    );
+    // The wait from 451,581 to 507,510, record 26, passes 4,149 + 503,017.
+    let refused = "steps 25 time 451581 refusal 40 at 26\n3 held 2000 dropped 0 worst 0 paused 0\n";
+    assert_eq!(report(PATHS, PATHS_BY_300), refused);
+    assert_eq!(
+        report(ROOM, ROOM_BY_300),
+        "steps 0 time 0 refusal 15 at 0\n"
     );
 }
 

@@ -1,4 +1,5 @@
-//! "Numbers on each side of a limit", line by line, and Table N-1.
+//! "Numbers on each side of a limit", line by line, with the figures of document 02's L1, and
+//! Table N-1.
 
 mod common;
 
@@ -83,7 +84,7 @@ fn timer_5_after_4_5_and_9_quanta() {
 
 #[test]
 fn link_bits_of_100_1_and_0_metres() {
-    for (metres, bits) in [(100, 5_556), (1, 56), (0, 0)] {
+    for (metres, bits) in [(100, 5_560), (1, 56), (0, 0)] {
         let inputs = Inputs {
             metres,
             ..inputs_of_004()
@@ -106,11 +107,31 @@ fn each_direction_of_10gbase_t_with_mac_rs_and_two_xaui() {
 #[test]
 fn sums_of_document_004() {
     let sum = calculate(&inputs_of_004()).unwrap();
-    assert_eq!(sum.total, BitTimes(126_224));
-    assert_eq!(sum.request_path, BitTimes(49_588));
-    assert_eq!(sum.data_path, BitTimes(43_444));
+    assert_eq!(sum.total, BitTimes(126_232));
+    assert_eq!(sum.request_path, BitTimes(49_592));
+    assert_eq!(sum.data_path, BitTimes(43_448));
     assert_eq!(sum.delays.one_way(), OctetTimes(8_328));
     assert_eq!(sum.delays.headroom(), OctetTimes(15_779));
+}
+
+/// L1: "A site with 80 km of fibre caught this."
+#[test]
+fn sums_of_80_km_of_fibre() {
+    let inputs = Inputs {
+        metres: 80_000,
+        percentage: 67,
+        ..inputs_of_004()
+    };
+    let sum = calculate(&inputs).unwrap();
+    assert_eq!(sum.link, BitTimes(3_982_855));
+    // 18,944 + 3,982,855 + 18,944, and 6,144 more.
+    assert_eq!(sum.data_path, BitTimes(4_020_743));
+    assert_eq!(sum.request_path, BitTimes(4_026_887));
+    // 200 + 16,160 + 672 + 4,026,887 + 16,160 + 4,020,743.
+    assert_eq!(sum.total, BitTimes(8_080_822));
+    // 25 + 2,020 + 84 + 503,361, and 2,020 + 502,593 more.
+    assert_eq!(sum.delays.one_way(), OctetTimes(505_490));
+    assert_eq!(sum.delays.headroom(), OctetTimes(1_010_103));
 }
 
 #[test]

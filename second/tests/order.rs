@@ -130,16 +130,10 @@ fn building_5_6() {
 #[test]
 fn headroom_10_11_12_13_14_19() {
     let good = Inputs {
-        rate: 10_000,
         metres: 100_000,
-        percentage: 40,
-        largest_frame: 64,
         generation: BitTimes(1_048_576),
-        b_transmit: BitTimes(0),
-        b_receive: BitTimes(0),
-        a_transmit: BitTimes(0),
-        a_receive: BitTimes(0),
         halt: BitTimes(6_144),
+        ..bare_inputs()
     };
     let answer = |inputs: &Inputs| number(calculate(inputs));
     assert_eq!(answer(&good), 0);

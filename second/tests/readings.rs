@@ -24,22 +24,6 @@ const ANY_REQUEST: Request = Request {
     times: [1, 2, 3, 4, 5, 6, 7, 0xFFFF],
 };
 
-/// Inputs with nothing in them that takes time but the frames.
-fn bare_inputs() -> Inputs {
-    Inputs {
-        rate: 10_000,
-        metres: 0,
-        percentage: 40,
-        largest_frame: 64,
-        generation: BitTimes(0),
-        b_transmit: BitTimes(0),
-        b_receive: BitTimes(0),
-        a_transmit: BitTimes(0),
-        a_receive: BitTimes(0),
-        halt: BitTimes(0),
-    }
-}
-
 #[test]
 fn point_01_halt_is_no_station_delay_but_part_of_the_path() {
     let answer = |halt| {
@@ -174,6 +158,18 @@ fn point_06_wide_headroom_inputs_are_refused_and_limits_pass() {
 #[test]
 fn point_07_total_bits_and_headroom_octets_are_rounded_apart() {
     let inputs = Inputs {
+        generation: BitTimes(1),
+        b_transmit: BitTimes(1),
+        b_receive: BitTimes(1),
+        ..bare_inputs()
+    };
+    let sum = calculate(&inputs).unwrap();
+    // 1 + 672 + 672 + 1 + 672 + 1 bits are 253 octets, rounded up; apart, 1 + 84 + 84 + 1 + 84 + 1.
+    assert_eq!(sum.total, BitTimes(2_019));
+    assert_eq!(sum.total.rounded_up_to_octet_times(), OctetTimes(253));
+    assert_eq!(sum.delays.headroom(), OctetTimes(255));
+    // Document 004's example has whole octets by L1: 126,232 bits, P 49,592 / 8, D 43,448 / 8.
+    let inputs = Inputs {
         metres: 100,
         percentage: 60,
         largest_frame: 2000,
@@ -186,10 +182,11 @@ fn point_07_total_bits_and_headroom_octets_are_rounded_apart() {
         ..bare_inputs()
     };
     let sum = calculate(&inputs).unwrap();
-    // 126,224 bits are 15,778 octets exactly; P and D are each half an octet rounded up.
-    assert_eq!(sum.total.rounded_up_to_octet_times(), OctetTimes(15_778));
+    assert_eq!(sum.total.rounded_up_to_octet_times(), OctetTimes(15_779));
     assert_eq!(sum.delays.headroom(), OctetTimes(15_779));
-    // The room rules use the octets: 15,778 + 2,000 is not enough.
+    // The settings of document 01's example are given the paths from before: 126,224 bits are
+    // 15,778 octets exactly, and P and D are each half an octet rounded up. The room rules use
+    // the octets, so 15,778 + 2,000 is not enough.
     let given = Given {
         rooms: [17_778; 8],
         ..example()

@@ -128,14 +128,14 @@ fn headroom_10_11_12_13_14_19() {
         mend(&mut inputs);
     }
     // One bit more on the request path, and a data path of its own over the limit: at 100,000 m,
-    // 100,000 Mb/s and 40 % the link is 83,333,334 bits, so no data path can be.
+    // 100,000 Mb/s and 40 % the link is 83,391,024 bits, so no data path can be.
     inputs.halt = BitTimes(134_217_728 - 2_097_152 + 1);
     assert_eq!(number(calculate(&inputs)), 14);
     inputs.metres = 100_000;
     inputs.rate = 100_000;
     inputs.percentage = 40;
     inputs.halt = BitTimes(61_440);
-    assert_eq!(calculate(&inputs).unwrap().link, BitTimes(83_333_334));
+    assert_eq!(calculate(&inputs).unwrap().link, BitTimes(83_391_024));
 }
 
 #[test]

@@ -118,7 +118,7 @@ fn headroom_of_document_004() {
     ];
     assert_eq!(
         line(&format!("05 {}", wide(&inputs))),
-        "headroom link 5556 request 49588 data 43444 total 126224 \
+        "headroom link 5560 request 49592 data 43448 total 126232 \
          G 25 W 2020 P 6199 D 5431 oneway 8328 headroom 15779"
     );
     let mut refused = inputs;

@@ -28,8 +28,8 @@ const LEAST_PERCENTAGE: u64 = 40;
 
 const LARGEST_PERCENTAGE: u64 = 100;
 
-// Light, in metres per microsecond.
-const LIGHT_SPEED: u64 = 300;
+// Light, in metres per second.
+const LIGHT_SPEED: u64 = 299_792_458;
 
 // What the sum is made of: the rate in Mb/s, the cable's metres, the signal's speed as a percentage of light's, the largest frame
 // M in octets with FCS, and the delays in bit times. Any numbers may be given.
@@ -83,7 +83,7 @@ fn link_bits(metres: u64, rate: u64, percentage: u64) -> BitTimes
     ensures { λ r. ⌜ (r .0 ≡ linkBits metres rate percentage) × (r .0 ≤ largestPath) ⌝ }
 {
     let parts = percentage * LIGHT_SPEED;
-    BitTimes((metres * rate * 100 + (parts - 1)) / parts)
+    BitTimes((metres * rate * 100_000_000 + (parts - 1)) / parts)
 }
 
 // The request path: B transmit + link + A receive + halt.

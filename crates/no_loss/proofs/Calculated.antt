@@ -13,6 +13,7 @@ use borrow.Fn.Kinds.{Dens, resT, endedOf}
 use denote.Triple.Clauses.{AtExit}
 use Rattle.ground.specs.Pick.{pick}
 use Rattle.ground.specs.First.{firstOf}
+use Rattle.units.specs.Counts.{bits}
 use Rattle.limits.specs.Limits.{refused13}
 use Rattle.room_to_keep.specs.Keep.{oneWay, headroom, refused14}
 use Rattle.headroom_sum.specs.declared.Inputs.{Inputs}
@@ -93,8 +94,29 @@ within-calculated worked s same accepted fits records priority on =
     subst (λ (most : ℕ). roomAt (reached s records .recorder) priority .worst ≤ most) (same .headroom)
     (no-loss s accepted fits records priority on .within-headroom)
 
--- the sum accepts document 004's example, and document 01's worked settings are made from it, whatever their T, I and rooms
+-- document 01's worked settings with the paths that the sum gives since L1
+abbrev made004 : ℕ → ℕ → ℕ → Settings
+made004 pause refresh room =
+    let s = settings004 pause refresh room in
+    record {
+      enabled = s .enabled;
+      largest = s .largest;
+      generation = s .generation;
+      «request_path» = bits 49592;
+      «data_path» = bits 43448;
+      pause = pause;
+      refresh = s .refresh;
+      hysteresis = s .hysteresis;
+      rooms = s .rooms;
+    }
+
+-- the sum accepts document 004's example, and such settings are made from it, whatever their T, I and rooms
 pub example-made : (pause refresh room : ℕ) →
-    (summed example004 ≡ Summed.Whole (items example004)) × MadeFrom example004 (items example004) (settings004 pause refresh room)
+    (summed example004 ≡ Summed.Whole (items example004)) × MadeFrom example004 (items example004) (made004 pause refresh room)
 unfolding summed firstOf haltLimit linkBits pick
 example-made pause refresh room = (refl, record { largest = refl; generation = refl; request-path = refl; data-path = refl })
+
+-- with the paths from before L1, 49,588 and 43,444 bits, they keep the same room: in octet times the paths are the same
+pub example-unmoved : (pause refresh room : ℕ) → Calculated (items example004) (settings004 pause refresh room)
+unfolding linkBits
+example-unmoved pause refresh room = record { one-way = refl; headroom = refl }

@@ -1,10 +1,12 @@
-//! What the tests share: settings with known delays, records in hex order, and whole runs.
+//! What the tests share: settings with known delays, bare headroom inputs, records in hex order, and
+//! whole runs.
 #![allow(dead_code)]
 
 use std::io::Write;
 use std::process::{Command, Stdio};
 
 use second::bench::{run, Bench, Record};
+use second::headroom::Inputs;
 use second::refusal::Refusal;
 use second::settings::Settings;
 use second::units::{BitTimes, OctetTimes};
@@ -52,6 +54,22 @@ pub fn small() -> Given {
         i: 100,
         hysteresis: 0,
         rooms: [326; 8],
+    }
+}
+
+/// Inputs with nothing in them that takes time but the frames.
+pub fn bare_inputs() -> Inputs {
+    Inputs {
+        rate: 10_000,
+        metres: 0,
+        percentage: 40,
+        largest_frame: 64,
+        generation: BitTimes(0),
+        b_transmit: BitTimes(0),
+        b_receive: BitTimes(0),
+        a_transmit: BitTimes(0),
+        a_receive: BitTimes(0),
+        halt: BitTimes(0),
     }
 }
 

@@ -3,12 +3,19 @@
 use std::collections::{BTreeMap, BTreeSet};
 
 use second::bench::{run_watched, Bench, Record, Report};
+use second::headroom::{calculate, Inputs, LONGEST_PATH};
 use second::order::{with_pairs_met, Pair, ALL_LINES};
+use second::refusal::Refusal;
+use second::slips::{with_slip, Slip};
+use second::vectors::{cases, headroom_inputs};
 use second::PRIORITIES;
 
 use crate::bench_inputs::{BenchKind, REACHABLE_REFUSALS};
 use crate::other::vectors_answer;
 use crate::vector_inputs::CaseKind;
+
+/// A path so many bits or fewer from its limit is near it.
+const NEAR: u64 = 3;
 
 #[derive(Default)]
 pub struct Tally {
@@ -17,6 +24,12 @@ pub struct Tally {
     /// Runs that met a pair: a vector file with many such cases is one.
     by_pair: BTreeMap<Pair, u64>,
     vector_files: u64,
+    /// Headroom cases whose link has other bits by light at 300 metres per microsecond, and those
+    /// that are answered with another refusal by it.
+    pub other_link: u64,
+    pub other_refusal: u64,
+    /// Headroom cases with a link above 0 bits and a request path near its limit.
+    pub path_near_limit: u64,
     paused: u64,
     refreshed: u64,
     resumed: u64,
@@ -97,9 +110,30 @@ impl Tally {
         for kind in kinds {
             *self.by_kind.entry(kind.text()).or_default() += 1;
         }
+        for inputs in cases(file).filter_map(headroom_inputs) {
+            self.count_headroom(&inputs);
+        }
         let (answer, met) = with_pairs_met(|| vectors_answer(file));
         self.count_pairs(met);
         answer
+    }
+
+    fn count_headroom(&mut self, inputs: &Inputs) {
+        let answer = calculate(inputs);
+        if !matches!(
+            answer,
+            Ok(_) | Err(Refusal::DelayTooLong | Refusal::HaltTooLong)
+        ) {
+            // The link decides nothing where 10, 11, 12 or 13 is given.
+            return;
+        }
+        let link = inputs.link();
+        let (other_link, other_answer) =
+            with_slip(Slip::LightAt300, || (inputs.link(), calculate(inputs)));
+        self.other_link += u64::from(other_link != link);
+        self.other_refusal += u64::from(other_answer.err() != answer.err());
+        let from_limit = inputs.request_path(link).0.abs_diff(LONGEST_PATH.0);
+        self.path_near_limit += u64::from(link.0 > 0 && from_limit <= NEAR);
     }
 
     fn count_pairs(&mut self, met: BTreeSet<Pair>) {
@@ -114,6 +148,16 @@ impl Tally {
             println!("  {kind}: {count}");
         }
         println!("vector files: {}", self.vector_files);
+        println!("headroom cases past 10 to 13:");
+        println!(
+            "  with other bits by light at 300 metres per microsecond: {}",
+            self.other_link
+        );
+        println!("  with another refusal by it: {}", self.other_refusal);
+        println!(
+            "  with a link above 0 bits and a request path within {NEAR} bits of its limit: {}",
+            self.path_near_limit
+        );
         println!("bench runs that reached each refusal:");
         for number in REACHABLE_REFUSALS {
             println!("  {number}: {}", self.reached(number));
@@ -154,6 +198,12 @@ impl Tally {
                 println!("  {}: {pair} (not expected): {count}", pair.line.text());
             }
         }
+    }
+
+    /// How many inputs or cases of a kind were counted.
+    #[cfg(test)]
+    pub fn count_of(&self, kind: &str) -> u64 {
+        self.by_kind.get(kind).copied().unwrap_or(0)
     }
 
     fn reached(&self, number: u8) -> u64 {

@@ -88,6 +88,25 @@ fn vector_files_stay_under_900_000_octets_and_hold_their_cases() {
 }
 
 #[test]
+fn headroom_cases_tell_light_from_300_metres_per_microsecond() {
+    let mut tally = Tally::default();
+    for seed in 0..10 {
+        let (file, kinds) = make_file(&mut Random::new(seed));
+        tally.count_vectors(&kinds, &file);
+    }
+    let cases = tally.count_of("vector, headroom");
+    assert!(cases > 0);
+    // Most by the bits; by the refusal, and with a path at its limit, not just here and there.
+    for (what, count, one_in) in [
+        ("other bits", tally.other_link, 2),
+        ("another refusal", tally.other_refusal, 20),
+        ("a path near its limit", tally.path_near_limit, 20),
+    ] {
+        assert!(count * one_in > cases, "{what}: {count} of {cases}");
+    }
+}
+
+#[test]
 fn commented_text_reads_back_as_the_input() {
     for seed in 0..10 {
         let input = make(&mut Random::new(seed), BenchKind::DamagedRun);

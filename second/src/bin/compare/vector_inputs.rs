@@ -1,8 +1,9 @@
 //! Makes vector files: many cases around every limit, packed into one file.
 
 use second::frame::{Address, GROUP_ADDRESS};
-use second::headroom::{calculate, Inputs};
-use second::units::{BitTimes, OCTET_TIMES_PER_QUANTUM};
+use second::headroom::LONGEST_PATH;
+use second::units::OCTET_TIMES_PER_QUANTUM;
+use second::vectors::headroom_inputs;
 use second::PRIORITIES;
 
 use crate::random::Random;
@@ -282,17 +283,28 @@ fn choice(random: &mut Random) -> Vec<u8> {
 fn headroom(random: &mut Random) -> Vec<u8> {
     let mut numbers = [0u64; 10];
     numbers[0] = random.pick(&[10_000, 40_000, 100_000]);
-    numbers[1] = random.edge_or_between(&[0, 1, 99_999, 100_000], 0, 2_000);
-    numbers[2] = random.edge_or_between(&[40, 60, 66, 99, 100], 40, 100);
+    numbers[1] = metres(random);
+    numbers[2] = match random.between(0, 2) {
+        0 => random.pick(&[40, 60, 66, 67, 99, 100]),
+        _ => random.between(40, 100),
+    };
     numbers[3] = random.edge_or_between(&[64, 65, 2_000, 9_215, 9_216], 64, 9_216);
     for delay in &mut numbers[4..9] {
         *delay = random.edge_or_between(&[0, 1, 7, 8, 1_048_575, 1_048_576], 0, 50_000);
     }
     let halt_limit = numbers[0] * 6_144 / 10_000;
     numbers[9] = random.edge_or_between(&[0, halt_limit], 0, halt_limit);
-    for _ in 0..random.pick(&[0, 0, 1, 2, 2]) {
-        spoil(random, &mut numbers, halt_limit);
+    if random.once_in(5) {
+        bring_path_to_its_limit(random, &mut numbers);
+    } else {
+        for _ in 0..random.pick(&[0, 0, 1, 2, 2]) {
+            spoil(random, &mut numbers, halt_limit);
+        }
     }
+    headroom_case(&numbers)
+}
+
+fn headroom_case(numbers: &[u64; 10]) -> Vec<u8> {
     let mut case = vec![0x05];
     case.extend(numbers.iter().flat_map(|number| number.to_be_bytes()));
     case
@@ -316,26 +328,31 @@ fn spoil(random: &mut Random, numbers: &mut [u64; 10], halt_limit: u64) {
     // The halt delay just past its limit, or the request path just at or past its own.
     numbers[9] = halt_limit + 1;
     if random.once_in(2) {
-        numbers[9] = 0;
-        if let Ok(sum) = calculate(&inputs_of(numbers)) {
-            numbers[9] = 134_217_728 - sum.request_path.0 + random.between(0, 1);
-        }
+        bring_path_to_its_limit(random, numbers);
     }
 }
 
-fn inputs_of(numbers: &[u64; 10]) -> Inputs {
-    Inputs {
-        rate: numbers[0],
-        metres: numbers[1],
-        percentage: numbers[2],
-        largest_frame: numbers[3],
-        generation: BitTimes(numbers[4]),
-        b_transmit: BitTimes(numbers[5]),
-        b_receive: BitTimes(numbers[6]),
-        a_transmit: BitTimes(numbers[7]),
-        a_receive: BitTimes(numbers[8]),
-        halt: BitTimes(numbers[9]),
+/// Cables of every length: up to 38 metres the link can have as many bits by light at 300 metres
+/// per microsecond, beyond that it never has.
+fn metres(random: &mut Random) -> u64 {
+    match random.between(0, 4) {
+        0 => random.pick(&[0, 0, 1, 2, 3, 99_999, 100_000]),
+        1 => random.between(0, 40),
+        2 => random.between(0, 2_000),
+        _ => random.between(0, 100_000),
     }
+}
+
+/// A halt delay, above its own limit, with which the request path is at its limit, a bit or two
+/// beside it, or so far past it that with a link of too few bits it would not be.
+fn bring_path_to_its_limit(random: &mut Random, numbers: &mut [u64; 10]) {
+    numbers[9] = 0;
+    let inputs = headroom_inputs(&headroom_case(numbers)).expect("the case is whole");
+    let without_halt = inputs.request_path(inputs.link()).0;
+    let past = random.pick(&[-2, -1, 0, 0, 0, 1, 1, 1, 2, 3, 10, 100]);
+    let path = LONGEST_PATH.0.saturating_add_signed(past);
+    // Delays that are refused on their own can be longer than that already.
+    numbers[9] = path.saturating_sub(without_halt);
 }
 
 fn settings(random: &mut Random) -> Vec<u8> {
