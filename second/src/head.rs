@@ -48,12 +48,15 @@ impl Head {
         };
     }
 
-    /// Lowers each timer by the count, not below zero.
+    /// Lowers each timer by the count, not below zero, in one stroke however many quanta it counts.
     pub fn pass(&mut self, count: Quanta) {
-        // A count wider than any timer lowers each to zero, as the widest timer's count does.
-        let lowered_by = u16::try_from(count.0).unwrap_or(u16::MAX);
-        for timer in &mut self.timers {
-            *timer = timer.saturating_sub(lowered_by);
+        let count = narrowed(count);
+        for (n, timer) in self.timers.iter_mut().enumerate() {
+            let left_out = slipped(Slip::LastTimerLeftOut) && n == PRIORITIES - 1
+                || slipped(Slip::OnlyEnabledLowered) && !bit(self.enabled, n);
+            if !left_out {
+                *timer = lowered(*timer, count);
+            }
         }
     }
 
@@ -68,6 +71,38 @@ impl Head {
             .filter(|&n| self.is_paused(n))
             .fold(0, |marks, n| marks | 1 << n)
     }
+}
+
+/// The count at the width of a timer. One wider than any timer lowers each to zero, and so does the
+/// count of the widest.
+fn narrowed(Quanta(mut count): Quanta) -> u16 {
+    if slipped(Slip::CountCutTo16Bits) || slipped(Slip::LoweringWraps) {
+        return count as u16;
+    }
+    let mut widest = u16::MAX;
+    if slipped(Slip::CountCutTo32Bits) {
+        count = u64::from(count as u32);
+    }
+    if slipped(Slip::CountStopsAt65534) {
+        widest = 65_534;
+    }
+    u16::try_from(count).map_or(widest, |count| count.min(widest))
+}
+
+/// The timer after the count: what is above it, or zero.
+fn lowered(timer: u16, count: u16) -> u16 {
+    if slipped(Slip::LoweringWraps) {
+        return timer.wrapping_sub(count);
+    }
+    if slipped(Slip::LoweredAsSigned) {
+        return 0.max(timer.wrapping_sub(count) as i16) as u16;
+    }
+    let kept = slipped(Slip::TimerAtCountKept) && timer == count
+        || slipped(Slip::TimerBelowCountKept) && timer < count;
+    if kept {
+        return timer;
+    }
+    timer.saturating_sub(count)
 }
 
 /// The head of an empty class queue.

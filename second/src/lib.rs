@@ -1,5 +1,5 @@
-//! Document 01 and document 02's L1 as an independent second program: the stations, the headroom sum
-//! and the bench.
+//! Document 01 and document 02's L1 and L2 as an independent second program: the stations, the
+//! headroom sum and the bench.
 //!
 //! Written from those and their settled readings alone, by someone who has not read the Rattle code
 //! or its definitions.

@@ -1,7 +1,7 @@
 //! The internal switch of `compare --self-test`: it makes the library break one rule on purpose.
 //!
 //! No other program touches it, so everywhere else each rule stands as document 01 and document 02's
-//! L1 say.
+//! L1 and L2 say.
 
 use std::cell::Cell;
 
@@ -43,6 +43,15 @@ slips! {
     LargerTimeKept: "a request keeps the larger time",
     EnableSettingIgnored: "timers of priorities not enabled are set too",
     IndicationsSaturate: "the count of indications stops at its end",
+    LoweringWraps: "a timer below the count goes on from 65,535 in place of stopping at 0",
+    CountCutTo16Bits: "a count of quanta is cut to its low 16 bits",
+    CountCutTo32Bits: "a count of quanta is cut to its low 32 bits",
+    CountStopsAt65534: "a count of quanta lowers by 65,534 at most",
+    TimerAtCountKept: "a timer equal to the count is left as found",
+    TimerBelowCountKept: "a timer below the count is left as found",
+    LoweredAsSigned: "timer less count is taken as a signed number of 16 bits",
+    LastTimerLeftOut: "the timer of priority 7 is not lowered",
+    OnlyEnabledLowered: "timers of priorities not enabled are not lowered",
     PausedHeadStopsChoice: "a paused head holds back the lower classes too",
     LightAt300: "light is taken as 300 metres per microsecond",
     LightCutShort: "light is cut to whole metres per millisecond, 299,792",

@@ -20,6 +20,11 @@ fn sum(work: u8, turns: u64) -> u64 {
     printed(&file(work, turns, &[]))
 }
 
+/// The sum of work 08 with this count.
+fn sum_of_count(count: u64, turns: u64) -> u64 {
+    printed(&file(0x08, turns, &count.to_be_bytes()))
+}
+
 /// Tries a row of counts of turns, each with its sum.
 fn try_sums(work: u8, sums: &[(u64, u64)]) {
     for &(turns, expected) in sums {
@@ -37,15 +42,16 @@ fn try_turns(work: u8, turns: &[(u64, u64)]) {
 
 #[test]
 fn short_files_and_unknown_works_print_0() {
-    for work in 0..=8 {
+    for work in 0..=9 {
         // Turns enough that a whole file of each known work but reading has a sum above 0.
         let whole = file(work, 20, &[]);
         for length in 0..whole.len() {
             assert_eq!(printed(&whole[..length]), 0, "{length} octets");
         }
     }
-    for work in [0x00, 0x08, 0x10, 0xFF] {
-        assert_eq!(sum(work, 20), 0, "work {work}");
+    // Material is there for the works that need some.
+    for work in [0x00, 0x09, 0x10, 0xFF] {
+        assert_eq!(printed(&file(work, 20, &[0; 300])), 0, "work {work}");
     }
 }
 
@@ -57,7 +63,7 @@ fn the_line_has_no_more_than_the_number() {
 }
 
 #[test]
-fn only_reading_looks_at_material() {
+fn works_02_to_07_look_at_no_material() {
     for work in 2..=7 {
         let with_material = file(work, 20, &[0xA5; 300]);
         assert_eq!(printed(&with_material), sum(work, 20), "work {work}");
@@ -240,6 +246,59 @@ fn a_request_is_taken_and_100_quanta_pass() {
             (65_640, 5),
         ],
     );
+}
+
+#[test]
+fn a_request_is_taken_and_a_count_passes() {
+    // Before the count the timer of turn n, for n below 8, is n + 8,191n = 8,192n. Off 0; 8,192;
+    // 16,384; 24,576; 32,768; 40,960; 49,152; 57,344 go 40,000, which leave 960, 9,152 and 17,344
+    // in turns 5 to 7. Sums: 0; 960; 10,112; 27,456. The end adds as many indications as there were
+    // turns.
+    for (turns, expected) in [(0, 0), (5, 5), (6, 966), (7, 10_119), (8, 27_464)] {
+        assert_eq!(sum_of_count(40_000, turns), expected, "{turns} turns");
+    }
+    // Three turns with counts at 8,192 and 16,384 and on each side of them, and past both.
+    for (count, expected) in [
+        (0, 24_576 + 3),
+        (1, 24_574 + 3),
+        (8_191, 1 + 8_193 + 3),
+        (8_192, 8_192 + 3),
+        (8_193, 8_191 + 3),
+        (16_383, 1 + 3),
+        (16_384, 3),
+        (16_385, 3),
+        (65_535, 3),
+        // The low 16 bits, or 32, of these are 0 and 1.
+        (65_536, 3),
+        (65_537, 3),
+        ((1 << 32) + 1, 3),
+        (u64::MAX, 3),
+    ] {
+        assert_eq!(sum_of_count(count, 3), expected, "{count} quanta");
+    }
+    // Turn 8,191 = 8 x 1,023 + 7 is the first with 65,528: 8,191 + 57,337. Each turn has an
+    // indication.
+    assert_eq!(sum_of_count(65_527, 8_191), 8_191);
+    assert_eq!(sum_of_count(65_527, 8_192), 8_193);
+    assert_eq!(sum_of_count(65_528, 8_192), 8_192);
+    // Work 04 is the one of 100 quanta.
+    for turns in [0, 1, 2, 3, 100, 105, 8_304, 65_641] {
+        assert_eq!(sum_of_count(100, turns), sum(0x04, turns), "{turns} turns");
+    }
+}
+
+#[test]
+fn a_count_is_eight_octets_and_what_follows_is_ignored() {
+    let count = 40_000u64.to_be_bytes();
+    for length in 0..8 {
+        let cut = file(0x08, 8, &count[..length]);
+        assert_eq!(printed(&cut), 0, "{length} octets");
+    }
+    for spare in [0, 1, 8, 300] {
+        let material = [&count[..], &vec![0xA5; spare]].concat();
+        let sum = printed(&file(0x08, 8, &material));
+        assert_eq!(sum, 27_464, "{spare} octets more");
+    }
 }
 
 #[test]

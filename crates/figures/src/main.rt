@@ -11,11 +11,12 @@ fn sum_of(what: u8, turns: u64, material: &[u8]) -> u64 {
     match what {
         0x01 => frames::reading(material, turns),
         0x02 => frames::building(turns),
-        0x03 => station::timers(what, turns),
-        0x04 => station::timers(what, turns),
-        0x05 => station::timers(what, turns),
+        0x03 => station::timers(what, turns, 0),
+        0x04 => station::timers(what, turns, 0),
+        0x05 => station::requests(turns),
         0x06 => station::choices(turns),
         0x07 => recording::watching(turns),
+        0x08 => station::counted_quanta(material, turns),
         _ => 0,
     }
 }

@@ -19,28 +19,57 @@ fn quantum(head: Head, turn: u64) -> Head {
     head.passed(Quanta(1))
 }
 
-fn many_quanta(head: Head, turn: u64) -> Head {
+// A request is taken, then a count of quanta passes.
+fn many_quanta(head: Head, turn: u64, count: u64) -> Head {
     let set = head.taken(255, turns::times(turn));
-    set.passed(Quanta(100))
+    set.passed(Quanta(count))
 }
 
 // The head after a turn of the work that is asked.
-fn after(what: u8, head: Head, turn: u64) -> Head {
+fn after(what: u8, head: Head, turn: u64, count: u64) -> Head {
     match what {
         0x03 => quantum(head, turn),
-        0x04 => many_quanta(head, turn),
-        _ => head.taken((turn % 256) as u8, turns::times(turn)),
+        0x04 => many_quanta(head, turn, 100),
+        _ => many_quanta(head, turn, count),
     }
 }
 
-pub(crate) fn timers(what: u8, turns: u64) -> u64 {
+// Quanta pass: work 03, 04, or 08 with its count.
+pub(crate) fn timers(what: u8, turns: u64, count: u64) -> u64 {
     let mut head = Head::fresh(255);
     let mut sum: u64 = 0;
     let mut turn: u64 = 0;
     while turn < turns {
-        let next = after(what, head, turn);
+        let next = after(what, head, turn, count);
         head = next;
         sum = turns::add(sum, timer_of(next, turn));
+        turn += 1;
+    }
+    turns::add(sum, head.indications as u64)
+}
+
+// The count of work 08 stands in the material, so that no compiler knows it.
+pub(crate) fn counted_quanta(material: &[u8], turns: u64) -> u64 {
+    if material.len() < 8 {
+        return 0;
+    }
+    timers(0x08, turns, octets::wide_at(material, 0))
+}
+
+// A request for some of the priorities is taken.
+fn request(head: Head, turn: u64) -> Head {
+    head.taken((turn % 256) as u8, turns::times(turn))
+}
+
+// Requests are taken, in a loop of their own, so that their speed does not hang on how quanta pass.
+pub(crate) fn requests(turns: u64) -> u64 {
+    let mut head = Head::fresh(255);
+    let mut sum: u64 = 0;
+    let mut turn: u64 = 0;
+    while turn < turns {
+        let next = request(head, turn);
+        head = next;
+        sum = turns::add(sum, timer_of(head, turn));
         turn += 1;
     }
     turns::add(sum, head.indications as u64)

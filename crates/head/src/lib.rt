@@ -2,7 +2,7 @@
 // one, on any input.
 use units::Quanta;
 ghost use mathlib.Core.Path.{_≡_};
-ghost use Prim.Native.Nat.{_+_, _-_, _%_, _^_, _<_};
+ghost use Prim.Native.Nat.{_+_, _-_, _%_, _^_, _<_, min};
 ghost use lib.ListN.{getD};
 ghost use Rattle.ground.specs.Eight.{eight};
 ghost use Rattle.head.specs.Timers.{afterQuanta, afterRequest, isPaused, lowered, start};
@@ -124,41 +124,41 @@ fn replaced(e: [bool; 8], enabled: [bool; 8], times: [u16; 8], timers: [u16; 8])
     ]
 }
 
-// Timer n after one quantum.
-fn lower_at(timers: [u16; 8], n: usize) -> u16
+// A count of quanta in the width of a timer. No timer is above 65,535, so that every count from there on lowers it to zero.
+fn within_a_timer(count: u64) -> u16
+    ensures { λ r. ⌜ r ≡ min count 65535 ⌝ }
+{
+    if count < 65535 { count as u16 } else { 65535 }
+}
+
+// One timer after a count of quanta.
+fn lowered_one(timer: u16, quanta: u16) -> u16
+    ensures { λ r. ⌜ r ≡ timer - quanta ⌝ }
+{
+    if quanta < timer { timer - quanta } else { 0 }
+}
+
+// Timer n after a count of quanta.
+fn lowered_at(timers: [u16; 8], n: usize, quanta: u16) -> u16
     requires { ⌜ n < 8 ⌝ }
-    ensures { λ r. ⌜ r ≡ getD timers n 0 - 1 ⌝ }
+    ensures { λ r. ⌜ r ≡ getD timers n 0 - quanta ⌝ }
 {
-    let timer = timers[n];
-    if timer == 0 { 0 } else { timer - 1 }
+    lowered_one(timers[n], quanta)
 }
 
-// The timers after one quantum.
-fn lower(timers: [u16; 8]) -> [u16; 8]
-    ensures { λ r. ⌜ r ≡ lowered timers 1 ⌝ }
-{
-    [
-        lower_at(timers, 0),
-        lower_at(timers, 1),
-        lower_at(timers, 2),
-        lower_at(timers, 3),
-        lower_at(timers, 4),
-        lower_at(timers, 5),
-        lower_at(timers, 6),
-        lower_at(timers, 7),
-    ]
-}
-
-// The timers after a count of quanta, one by one. After 65,535 no timer is above zero, so that more change nothing.
+// The timers after a count of quanta, in one stroke: a comparison and a subtraction for each.
 fn lowered_by(timers: [u16; 8], count: u64) -> [u16; 8]
     ensures { λ r. ⌜ r ≡ lowered timers count ⌝ }
 {
-    let mut left = timers;
-    let mut turn: u64 = 0;
-    while turn < count && turn < 65535 {
-        let next = lower(left);
-        left = next;
-        turn += 1;
-    }
-    left
+    let quanta = within_a_timer(count);
+    [
+        lowered_at(timers, 0, quanta),
+        lowered_at(timers, 1, quanta),
+        lowered_at(timers, 2, quanta),
+        lowered_at(timers, 3, quanta),
+        lowered_at(timers, 4, quanta),
+        lowered_at(timers, 5, quanta),
+        lowered_at(timers, 6, quanta),
+        lowered_at(timers, 7, quanta),
+    ]
 }

@@ -1,13 +1,12 @@
-// A wait, walked octet time by octet time: only what time changes is carried, the clock, A's timers and since when PFC is due.
+// A wait, walked octet time by octet time: only what time changes is carried, the clock and A's timers.
 use head::Head;
 use moments::Moment;
 use units::OctetTimes;
 use units::Quanta;
 ghost use mathlib.Core.Path.{_≡_};
 ghost use Prim.Native.Nat.{_+_, _<_};
-ghost use Rattle.ground.specs.Pick.{pick};
 ghost use Rattle.walk.specs.Walk.{farthest, isNear, walkedOn, walkedBy};
-ghost use Rattle.walk.specs.Pacing.{headAt, fellAt, ticked, pacedBy, refreshAhead};
+ghost use Rattle.walk.specs.Pacing.{headAt, pacedBy, ticked};
 
 // A walk stays below this moment, 2^63: far above 2^40, and its sums fit a word.
 const FARTHEST: u64 = 9_223_372_036_854_775_808;
@@ -19,12 +18,11 @@ pub struct Walk {
     pub due: Moment,
 }
 
-// What is carried from octet time to octet time: the clock, A's timers, and whether the refresh fell due on the way. Plain words, since
-// a moment that may be none costs several times as much in each octet time.
+// What is carried from octet time to octet time: the clock and A's timers. Since when PFC is due is told by the refresh's own moment, and
+// need not be tried on the way.
 struct Pace {
     clock: OctetTimes,
     head: Head,
-    fell: bool,
 }
 
 // The head once time has reached a moment: a quantum passes at each positive multiple of 64.
@@ -38,17 +36,10 @@ fn head_at(head: Head, clock: OctetTimes) -> Head
     }
 }
 
-// Whether the refresh fell due, once time has reached a moment: it does at its own.
-fn fell_at(fell: bool, refresh: OctetTimes, clock: OctetTimes) -> bool
-    ensures { λ r. ⌜ r ≡ fellAt fell (refresh .0) (clock .0) ⌝ }
-{
-    if clock.0 == refresh.0 { true } else { fell }
-}
-
 // One octet time passes.
-fn tick(pace: Pace, refresh: OctetTimes) -> Pace
+fn tick(pace: Pace) -> Pace
     requires { ⌜ pace .clock .0 < farthest ⌝ }
-    ensures { λ r. ⌜ r ≡ ticked pace (refresh .0) ⌝ }
+    ensures { λ r. ⌜ r ≡ ticked pace ⌝ }
 {
     let next = pace.clock.0 + 1;
     let clock = OctetTimes(next);
@@ -56,66 +47,39 @@ fn tick(pace: Pace, refresh: OctetTimes) -> Pace
     Pace {
         clock,
         head: head_at(head, clock),
-        fell: fell_at(pace.fell, refresh, clock),
     }
 }
 
 // n octet times pass, one after the other.
-fn paced(pace: Pace, refresh: OctetTimes, n: u64) -> Pace
+fn paced(pace: Pace, n: u64) -> Pace
     requires { ⌜ pace .clock .0 + n < farthest ⌝ }
-    ensures { λ r. ⌜ r ≡ pacedBy pace (refresh .0) n ⌝ }
+    ensures { λ r. ⌜ r ≡ pacedBy pace n ⌝ }
 {
     let mut p = pace;
     let mut i: u64 = 0;
     while i < n {
-        let next = tick(p, refresh);
+        let next = tick(p);
         p = next;
         i += 1;
     }
     p
 }
 
-// The moment at which the refresh would fall due while none is due yet; the largest number, which no walk reaches, where none would.
-fn refresh_ahead(refresh: Moment, due: Moment) -> OctetTimes
-    ensures { λ r. ⌜ r .0 ≡ refreshAhead refresh due ⌝ }
-{
-    match due {
-        Moment::At(_) => OctetTimes(u64::MAX),
-        Moment::Never => match refresh {
-            Moment::Never => OctetTimes(u64::MAX),
-            Moment::At(moment) => moment,
-        },
-    }
-}
-
-// Since when a PFC frame is due after a walk, dated from the refresh's own moment where it fell due.
-fn due_after(fell: bool, refresh: Moment, due: Moment) -> Moment
-    ensures { λ r. ⌜ r ≡ pick fell refresh due ⌝ }
-{
-    if fell { refresh } else { due }
-}
-
-// n octet times pass; the refresh is also tried where they begin.
+// n octet times pass; where the refresh fell due on the way, PFC is due since its own moment.
 fn walked_on(walk: Walk, refresh: Moment, n: u64) -> Walk
     requires { ⌜ walk .clock .0 + n < farthest ⌝ }
     ensures { λ r. ⌜ r ≡ walkedOn walk refresh n ⌝ }
 {
-    let first = walk.due;
     let clock = walk.clock;
-    let due = moments::due_by(refresh, clock, first);
     let head = walk.head;
-    let start = Pace {
-        clock,
-        head,
-        fell: false,
-    };
-    let end = paced(start, refresh_ahead(refresh, due), n);
+    let due = walk.due;
+    let end = paced(Pace { clock, head }, n);
     let reached = end.clock;
     let after = end.head;
     Walk {
         clock: reached,
         head: after,
-        due: due_after(end.fell, refresh, due),
+        due: moments::due_by(refresh, reached, due),
     }
 }
 

@@ -84,6 +84,7 @@ fn sum_asked(file: &[u8]) -> Option<u64> {
         0x05 => Some(requests(turns)),
         0x06 => Some(choices(turns)),
         0x07 => Some(room_watching(turns)),
+        0x08 => requests_and_a_count(turns, file),
         _ => None,
     }
 }
@@ -162,10 +163,22 @@ fn quanta_one_by_one(turns: u64) -> u64 {
 /// A request for all priorities is taken a turn, and quanta pass after it.
 #[inline(never)]
 fn requests_and_quanta(turns: u64) -> u64 {
-    sum_at_head(turns, |head, t| {
+    sum_at_head(turns, request_then_count(QUANTA_A_REQUEST))
+}
+
+/// The same with the count that the material gives; nothing where it is too short for one.
+#[inline(never)]
+fn requests_and_a_count(turns: u64, mut material: Octets) -> Option<u64> {
+    let count = Quanta(material.number8()?);
+    Some(sum_at_head(turns, request_then_count(count)))
+}
+
+/// A turn in which a request for all priorities is taken and then this count passes.
+fn request_then_count(count: Quanta) -> impl Fn(&mut Head, u64) {
+    move |head, t| {
         head.take_request(&request_of(t, 0xFF));
-        head.pass(QUANTA_A_REQUEST);
-    })
+        head.pass(count);
+    }
 }
 
 /// A request for some of the priorities is taken a turn.

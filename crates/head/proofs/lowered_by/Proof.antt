@@ -1,67 +1,69 @@
--- `head::lowered_by` meets its contract. The loop's invariant: the timers are lowered by the turns passed. Assumes nothing.
-use mathlib.Core.Path.{_≡_, ap, _∙_}
-use mathlib.Core.List.{List}
-use Prim.Native.Nat.{ℕ, _≤_, _-_}
-use borrow.Author.Needs.{needs}
+-- `head::lowered_by` meets its contract: its eight results are the eight timers of the definition, and the count may stop at 65,535 since no
+-- timer is above. Assumes nothing.
+use mathlib.Core.Path.{ap, _∙_}
+use Prim.Native.Nat.{ℕ, _-_}
 use native.Mathlib.Omega.{arith}
 use mir.Syntax.{w16}
 use mir.Val.{Fits}
 use lib.ListN.{getD}
-use borrow.Author.Tests.{ltb-true, ltb-false}
 use Rattle.head.specs.Timers.{lowered}
-use Rattle.head.proofs.Lowered.{lowered-by-none, lowered-out, lowered-twice}
+use Rattle.head.proofs.Lowered.{lowered-by-least}
+use Rattle.ground.proofs.Eight.{eight-is}
+use borrow.Author.Needs.{needs}
 use Rattle.head.proofs.lowered_by.Statement.{statement}
 use Rattle.head.proofs.lowered_by.Tie as tie
 
-abbrev Inv-loop : tie.InvT-loop
-Inv-loop count left₀ turn₀ left turn = (turn ≤ count) × (turn ≤ 65535) × (left ≡ lowered left₀ turn)
+within-a-timer-requires : tie.Need-within-a-timer-requires
+within-a-timer-requires c κs = search needs
 
-abbrev μ-loop : tie.MeasureT-loop
-μ-loop count left₀ turn₀ left turn = count - turn
+lowered-at-requires : tie.Need-lowered-at-requires
+lowered-at-requires c κs = search needs
 
-loop-holds : tie.Need-loop-holds Inv-loop μ-loop
-loop-holds c = (omega arith, omega arith, lowered-by-none (c .args .timers) (search needs))
+lowered-at-requires-2 : tie.Need-lowered-at-requires-2
+lowered-at-requires-2 c κs = search needs
 
-lower-requires : tie.Need-lower-requires Inv-loop μ-loop
-lower-requires c κs = search needs
+lowered-at-requires-3 : tie.Need-lowered-at-requires-3
+lowered-at-requires-3 c κs = search needs
 
-add-turn : tie.Need-add-turn Inv-loop μ-loop
-add-turn c = omega arith
+lowered-at-requires-4 : tie.Need-lowered-at-requires-4
+lowered-at-requires-4 c κs = search needs
 
-loop-less : tie.Need-loop-less Inv-loop μ-loop
-loop-less c = omega arith
+lowered-at-requires-5 : tie.Need-lowered-at-requires-5
+lowered-at-requires-5 c κs = search needs
 
-loop-again : tie.Need-loop-again Inv-loop μ-loop
-loop-again c = (
-  omega arith,
-  omega (arith, ltb-true),
-  c .lower .ensures
-      ∙ ap (λ (l : List ℕ). lowered l 1) (c .before .before .before .loop .inv .2)
-      ∙ lowered-twice (c .before .before .before .before .args .timers) (c .before .before .before .loop .turn) 1,
-)
+lowered-at-requires-6 : tie.Need-lowered-at-requires-6
+lowered-at-requires-6 c κs = search needs
 
-returns : tie.Need-returns Inv-loop μ-loop
+lowered-at-requires-7 : tie.Need-lowered-at-requires-7
+lowered-at-requires-7 c κs = search needs
+
+lowered-at-requires-8 : tie.Need-lowered-at-requires-8
+lowered-at-requires-8 c κs = search needs
+
+returns : tie.Need-returns
 returns c =
-    let a = c .before .before .before .args in
+    let given = c .before .before .before .before .before .before .before .before in
+    let a = given .before .args in
     let small : (n : ℕ) → Fits w16 (getD (a .timers) n 0) = λ n. search needs in
-    c .before .before .loop .inv .2
-    ∙ lowered-out (a .timers) 65535 (c .before .before .loop .turn) (a .count)
-    (λ n. omega (arith, small n)) (omega (arith, ltb-false)) (omega (arith, ltb-false))
-
-returns-2 : tie.Need-returns-2 Inv-loop μ-loop
-returns-2 c =
-    c .before .loop .inv .2 ∙ ap (lowered (c .before .before .args .timers)) (omega arith)
+    eight-is (λ n. getD (a .timers) n 0 - given .within-a-timer .result)
+    (c .before .before .before .before .before .before .before .lowered-at .ensures) (c .before .before .before .before .before .before .lowered-at2 .ensures)
+    (c .before .before .before .before .before .lowered-at3 .ensures) (c .before .before .before .before .lowered-at4 .ensures)
+    (c .before .before .before .lowered-at5 .ensures) (c .before .before .lowered-at6 .ensures)
+    (c .before .lowered-at7 .ensures) (c .lowered-at8 .ensures)
+    ∙ ap (lowered (a .timers)) (given .within-a-timer .ensures)
+    ∙ lowered-by-least (a .timers) (a .count) 65535 (λ n. omega (arith, small n))
 
 pub lowered-by-spec : {M : Type 1} → statement M
 lowered-by-spec =
     tie.close
     (tie.spec
-    Inv-loop
-    μ-loop
-    loop-holds
-    lower-requires
-    add-turn
-    loop-less
-    loop-again
-    returns
-    returns-2)
+    within-a-timer-requires
+    lowered-at-requires
+    lowered-at-requires-2
+    lowered-at-requires-3
+    lowered-at-requires-4
+    lowered-at-requires-5
+    lowered-at-requires-6
+    lowered-at-requires-7
+    lowered-at-requires-8
+    returns)

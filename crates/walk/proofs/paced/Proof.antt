@@ -11,15 +11,15 @@ use Rattle.walk.proofs.paced.Statement.{statement}
 use Rattle.walk.proofs.paced.Tie as tie
 
 abbrev Inv-loop : tie.InvT-loop
-Inv-loop refresh n p₀ i₀ p i = (i ≤ n) × (p ≡ pacedBy p₀ (refresh .0) i)
+Inv-loop n p₀ i₀ p i = (i ≤ n) × (p ≡ pacedBy p₀ i)
 
 abbrev μ-loop : tie.MeasureT-loop
-μ-loop refresh n p₀ i₀ p i = n - i
+μ-loop n p₀ i₀ p i = n - i
 
 loop-holds : tie.Need-loop-holds Inv-loop μ-loop
 loop-holds c =
     let long : length (c .args .pace .head .timers) ≡ 8 = search needs in
-    (omega arith, pace-none (c .args .pace) (c .args .refresh .0) long)
+    (omega arith, pace-none (c .args .pace) long)
 
 tick-requires : tie.Need-tick-requires Inv-loop μ-loop
 unfolding pacedBy
@@ -37,14 +37,13 @@ loop-less c = search needs
 loop-again : tie.Need-loop-again Inv-loop μ-loop
 loop-again c =
     let loop = c .before .before .loop in
-    let a = c .before .before .before .args in
-    (omega arith, c .tick .ensures ∙ ap (λ (x : Pace). ticked x (a .refresh .0)) (loop .inv .1) ∙ pace-more _ _ _)
+    (omega arith, c .tick .ensures ∙ ap ticked (loop .inv .1) ∙ pace-more _ _)
 
 returns : tie.Need-returns Inv-loop μ-loop
 returns c =
     let a = c .before .before .args in
     let done : c .before .loop .i ≡ a .n = omega arith in
-    c .before .loop .inv .1 ∙ ap (pacedBy (a .pace) (a .refresh .0)) done
+    c .before .loop .inv .1 ∙ ap (pacedBy (a .pace)) done
 
 pub paced-spec : {M : Type 1} → statement M
 paced-spec = tie.close (tie.spec Inv-loop μ-loop loop-holds tick-requires add-i loop-less loop-again returns)

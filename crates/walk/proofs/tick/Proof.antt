@@ -11,15 +11,12 @@ add-next c = search needs
 head-at-requires : tie.Need-head-at-requires
 head-at-requires c κs = search needs
 
-fell-at-requires : tie.Need-fell-at-requires
-fell-at-requires c κs = search needs
-
 -- field by field: the clock is the sum itself
 returns : tie.Need-returns
 unfolding ticked
 returns c =
-    let a = c .before .before .before .before .args in
-    λ i. record { clock = record { 0 = a .pace .clock .0 + 1 }; head = c .before .head-at .ensures i; fell = c .fell-at .ensures i }
+    let a = c .before .before .before .args in
+    λ i. record { clock = record { 0 = a .pace .clock .0 + 1 }; head = c .head-at .ensures i }
 
 pub tick-spec : {M : Type 1} → statement M
-tick-spec = tie.close (tie.spec add-next head-at-requires fell-at-requires returns)
+tick-spec = tie.close (tie.spec add-next head-at-requires returns)

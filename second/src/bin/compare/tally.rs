@@ -7,12 +7,25 @@ use second::headroom::{calculate, Inputs, LONGEST_PATH};
 use second::order::{with_pairs_met, Pair, ALL_LINES};
 use second::refusal::Refusal;
 use second::slips::{with_slip, Slip};
-use second::vectors::{cases, headroom_inputs};
+use second::vectors::{answer_case, cases, headroom_inputs};
 use second::PRIORITIES;
 
 use crate::bench_inputs::{BenchKind, REACHABLE_REFUSALS};
 use crate::other::vectors_answer;
 use crate::vector_inputs::CaseKind;
+
+/// The ways to get document 02's L2 wrong.
+pub const LOWERING_SLIPS: [Slip; 9] = [
+    Slip::LoweringWraps,
+    Slip::CountCutTo16Bits,
+    Slip::CountCutTo32Bits,
+    Slip::CountStopsAt65534,
+    Slip::TimerAtCountKept,
+    Slip::TimerBelowCountKept,
+    Slip::LoweredAsSigned,
+    Slip::LastTimerLeftOut,
+    Slip::OnlyEnabledLowered,
+];
 
 /// A path so many bits or fewer from its limit is near it.
 const NEAR: u64 = 3;
@@ -24,6 +37,8 @@ pub struct Tally {
     /// Runs that met a pair: a vector file with many such cases is one.
     by_pair: BTreeMap<Pair, u64>,
     vector_files: u64,
+    /// Head cases that are answered otherwise with each of these slips.
+    pub otherwise_lowered: [u64; LOWERING_SLIPS.len()],
     /// Headroom cases whose link has other bits by light at 300 metres per microsecond, and those
     /// that are answered with another refusal by it.
     pub other_link: u64,
@@ -113,9 +128,19 @@ impl Tally {
         for inputs in cases(file).filter_map(headroom_inputs) {
             self.count_headroom(&inputs);
         }
+        for case in cases(file).filter(|case| case.first() == Some(&0x03)) {
+            self.count_head(case);
+        }
         let (answer, met) = with_pairs_met(|| vectors_answer(file));
         self.count_pairs(met);
         answer
+    }
+
+    fn count_head(&mut self, case: &[u8]) {
+        let answer = answer_case(case);
+        for (count, slip) in self.otherwise_lowered.iter_mut().zip(LOWERING_SLIPS) {
+            *count += u64::from(with_slip(slip, || answer_case(case)) != answer);
+        }
     }
 
     fn count_headroom(&mut self, inputs: &Inputs) {
@@ -147,17 +172,7 @@ impl Tally {
         for (kind, count) in &self.by_kind {
             println!("  {kind}: {count}");
         }
-        println!("vector files: {}", self.vector_files);
-        println!("headroom cases past 10 to 13:");
-        println!(
-            "  with other bits by light at 300 metres per microsecond: {}",
-            self.other_link
-        );
-        println!("  with another refusal by it: {}", self.other_refusal);
-        println!(
-            "  with a link above 0 bits and a request path within {NEAR} bits of its limit: {}",
-            self.path_near_limit
-        );
+        self.print_vectors();
         println!("bench runs that reached each refusal:");
         for number in REACHABLE_REFUSALS {
             println!("  {number}: {}", self.reached(number));
@@ -181,6 +196,24 @@ impl Tally {
         println!("highest worst: {whole}.{tenth} % of its headroom");
         println!("runs that break the promise: {}", self.promise_broken);
         println!("differed: {}", self.differed);
+    }
+
+    fn print_vectors(&self) {
+        println!("vector files: {}", self.vector_files);
+        println!("head cases that would be answered otherwise if");
+        for (count, slip) in self.otherwise_lowered.iter().zip(LOWERING_SLIPS) {
+            println!("  {}: {count}", slip.text());
+        }
+        println!("headroom cases past 10 to 13:");
+        println!(
+            "  with other bits by light at 300 metres per microsecond: {}",
+            self.other_link
+        );
+        println!("  with another refusal by it: {}", self.other_refusal);
+        println!(
+            "  with a link above 0 bits and a request path within {NEAR} bits of its limit: {}",
+            self.path_near_limit
+        );
     }
 
     fn print_pairs(&self) {

@@ -14,7 +14,7 @@ use crate::comparison::{compare, make_run};
 use crate::other::{Other, SlippedLibrary};
 use crate::random::Random;
 use crate::shrink::shrink;
-use crate::tally::Tally;
+use crate::tally::{Tally, LOWERING_SLIPS};
 use crate::vector_inputs::make_file;
 
 #[test]
@@ -87,13 +87,38 @@ fn vector_files_stay_under_900_000_octets_and_hold_their_cases() {
     }
 }
 
-#[test]
-fn headroom_cases_tell_light_from_300_metres_per_microsecond() {
+/// The tally of a few vector files.
+fn tally_of_files() -> Tally {
     let mut tally = Tally::default();
     for seed in 0..10 {
         let (file, kinds) = make_file(&mut Random::new(seed));
         tally.count_vectors(&kinds, &file);
     }
+    tally
+}
+
+#[test]
+fn head_cases_tell_one_stroke_from_what_is_nearly_that() {
+    let tally = tally_of_files();
+    let cases = tally.count_of("vector, the head");
+    assert!(cases > 0);
+    for (count, slip) in tally.otherwise_lowered.into_iter().zip(LOWERING_SLIPS) {
+        let one_in = match slip {
+            // Needs a timer of 65,535 and no count after the one that leaves 1 of it.
+            Slip::CountStopsAt65534 => 30,
+            Slip::CountCutTo32Bits => 20,
+            Slip::TimerAtCountKept => 10,
+            Slip::CountCutTo16Bits => 6,
+            _ => 2,
+        };
+        let what = slip.text();
+        assert!(count * one_in > cases, "{what}: {count} of {cases}");
+    }
+}
+
+#[test]
+fn headroom_cases_tell_light_from_300_metres_per_microsecond() {
+    let tally = tally_of_files();
     let cases = tally.count_of("vector, headroom");
     assert!(cases > 0);
     // Most by the bits; by the refusal, and with a path at its limit, not just here and there.

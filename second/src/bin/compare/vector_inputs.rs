@@ -1,8 +1,9 @@
 //! Makes vector files: many cases around every limit, packed into one file.
 
-use second::frame::{Address, GROUP_ADDRESS};
+use second::frame::{Address, Request, GROUP_ADDRESS};
+use second::head::Head;
 use second::headroom::LONGEST_PATH;
-use second::units::OCTET_TIMES_PER_QUANTUM;
+use second::units::{Quanta, OCTET_TIMES_PER_QUANTUM};
 use second::vectors::headroom_inputs;
 use second::PRIORITIES;
 
@@ -189,7 +190,7 @@ fn building(random: &mut Random) -> Vec<u8> {
         source[0] &= 0xFE;
     }
     case.extend(source);
-    case.extend(request(random));
+    case.extend(request_octets(&request(random)));
     let length = match random.between(0, 3) {
         0 => random.pick(&[58, 59, 60, 61]),
         1 => random.between(60, 80),
@@ -199,35 +200,57 @@ fn building(random: &mut Random) -> Vec<u8> {
     case
 }
 
-/// e and eight times.
-fn request(random: &mut Random) -> Vec<u8> {
-    let mut octets = vec![random.octet()];
-    octets.extend(times(random));
-    octets
+fn request(random: &mut Random) -> Request {
+    Request {
+        e: random.octet(),
+        times: times(random),
+    }
 }
 
-fn times(random: &mut Random) -> Vec<u8> {
-    (0..PRIORITIES)
-        .flat_map(|_| some_time(random).to_be_bytes())
-        .collect()
+fn request_octets(request: &Request) -> Vec<u8> {
+    [vec![request.e], times_octets(&request.times)].concat()
+}
+
+fn times_octets(times: &[u16; PRIORITIES]) -> Vec<u8> {
+    times.iter().flat_map(|time| time.to_be_bytes()).collect()
+}
+
+/// Eight times, now and then neighbours of one another, so that one count is at, below and above.
+fn times(random: &mut Random) -> [u16; PRIORITIES] {
+    if !random.once_in(3) {
+        return std::array::from_fn(|_| some_time(random));
+    }
+    let least = random.edge_or_between(&[0, 65_528], 0, 65_528) as u16;
+    let first = random.between(0, 7) as u16;
+    std::array::from_fn(|n| least + (first + n as u16) % 8)
 }
 
 fn some_time(random: &mut Random) -> u16 {
-    match random.between(0, 3) {
-        0 => random.pick(&[0, 0, 1, 2, 65_534, 65_535]),
+    match random.between(0, 4) {
+        0 => random.pick(&[0, 0, 1, 2, 65_534, 65_535, 65_535]),
         1 => random.between(0, 20) as u16,
+        2 => random.number2(),
         _ => random.of_any_width(16) as u16,
     }
 }
 
 fn head(random: &mut Random) -> Vec<u8> {
-    let mut case = vec![0x03];
-    case.push(random.pick(&[0xFF, 0xFF, 0x00, 0x08]) & random.octet() | random.octet() & 0x55);
-    let indications = random.pick(&[0, 1, u32::MAX - 1, u32::MAX, 0x1234_5678]);
-    case.extend(indications.to_be_bytes());
-    case.extend(times(random));
-    for _ in 0..random.between(0, 12) {
-        case.extend(action(random));
+    let mut head = Head {
+        enabled: random.pick(&[0xFF, 0xFF, 0x00, 0x08]) & random.octet() | random.octet() & 0x55,
+        indications: random.pick(&[0, 1, u32::MAX - 1, u32::MAX, 0x1234_5678]),
+        timers: times(random),
+    };
+    let mut case = vec![0x03, head.enabled];
+    case.extend(head.indications.to_be_bytes());
+    case.extend(times_octets(&head.timers));
+    // Few, so that what one count makes of a timer is seen at the end; or many.
+    let actions = match random.between(0, 19) {
+        0 => random.between(40, 150),
+        1..=12 => random.between(1, 3),
+        _ => random.between(0, 12),
+    };
+    for _ in 0..actions {
+        case.extend(action(random, &mut head));
     }
     match random.between(0, 5) {
         0 => case.push(random.between(2, 255) as u8),
@@ -240,16 +263,41 @@ fn head(random: &mut Random) -> Vec<u8> {
     case
 }
 
-fn action(random: &mut Random) -> Vec<u8> {
+/// An action, done at this head as well: a count goes by the timers as they stand.
+fn action(random: &mut Random, head: &mut Head) -> Vec<u8> {
     if random.once_in(2) {
-        return [vec![0x00], request(random)].concat();
+        let request = request(random);
+        head.take_request(&request);
+        return [vec![0x00], request_octets(&request)].concat();
     }
-    let count = match random.between(0, 3) {
-        0 => random.pick(&[0, 1, 65_534, 65_535, 65_536, 1 << 32, u64::MAX]),
-        1 => random.of_any_width(17),
-        _ => random.between(0, 12),
-    };
+    let count = count_of_quanta(random, &head.timers);
+    head.pass(Quanta(count));
     [&[0x01], &count.to_be_bytes()[..]].concat()
+}
+
+/// A count at one of the timers or beside it, or one that only its bits past the 16 of a timer tell
+/// from such a count; small ones, tens of thousands, and those at the end of a width.
+fn count_of_quanta(random: &mut Random, timers: &[u16; PRIORITIES]) -> u64 {
+    let timer = u64::from(random.pick(timers));
+    let beside = random.pick(&[timer.saturating_sub(1), timer, timer + 1]);
+    match random.between(0, 9) {
+        0..=2 => beside,
+        3 | 4 => beside.saturating_add(multiple_of_65536(random)),
+        5 => random.pick(&[65_534, 65_535, 65_536, 65_537, u64::MAX - 1, u64::MAX]),
+        6 => random.pick(&[0, 1, (1 << 32) - 1, 1 << 32, (1 << 32) + 1]),
+        7 => random.between(10_000, 65_535),
+        _ => random.between(0, 12),
+    }
+}
+
+/// 65,536 or more: the next few, any, or those of 2^32, which a cut to 32 bits leaves out as well.
+fn multiple_of_65536(random: &mut Random) -> u64 {
+    let times = match random.between(0, 2) {
+        0 => random.between(1, 4),
+        1 => random.of_any_width(48).max(1),
+        _ => random.of_any_width(32).max(1) << 16,
+    };
+    times << 16
 }
 
 fn choice(random: &mut Random) -> Vec<u8> {

@@ -5,10 +5,10 @@ use Rattle.figures.proofs.station.timers.Statement.{statement}
 use Rattle.figures.proofs.station.timers.Tie as tie
 
 abbrev Inv-loop : tie.InvT-loop
-Inv-loop what turns head₀ sum₀ turn₀ head sum turn = turn ≤ turns
+Inv-loop what turns count head₀ sum₀ turn₀ head sum turn = turn ≤ turns
 
 abbrev μ-loop : tie.MeasureT-loop
-μ-loop what turns head₀ sum₀ turn₀ head sum turn = turns - turn
+μ-loop what turns count head₀ sum₀ turn₀ head sum turn = turns - turn
 
 fresh-requires : tie.Need-fresh-requires Inv-loop μ-loop
 fresh-requires c κs = search needs
