@@ -1,5 +1,7 @@
 // Kinds 03 and 07 of the bench: a data frame reaches B, and B's disk takes octets. Arrays of any size are taken: octets past their end count
 // as 0.
+#![tactic(auto)]
+
 ghost use Rattle.std.specs.Prelude.{◌≡◌};
 ghost use Rattle.recorder.specs.Watching.{recorder_of};
 ghost use Rattle.bench_state.specs.Answered.{answered, ended_in, said, if_accepted, Left};
@@ -16,6 +18,7 @@ const DATA_WIDTH: usize = 3;
 const PFC_WIDTH: usize = 60;
 
 // The recorder's marks once the data frame in the first slot arrived.
+#[tactic(auto, unfolding(crate::specs::Arriving::brought_by, recorder::specs::Watching::arrived_at))]
 fn brought(watch: Watch, bench: Bench, numbers: &mut [[u64; 4]; 8], slots: &[u8]) -> Marks
     ensures { recorder_of numbers.new result ≡ brought_by watch bench numbers.old slots.now }
 {
@@ -34,6 +37,7 @@ fn brought(watch: Watch, bench: Bench, numbers: &mut [[u64; 4]; 8], slots: &[u8]
 }
 
 // Kind 03: the oldest data frame reaches B.
+#[tactic(auto, using(bench_state::proofs::Either::when_accepted, bench_state::proofs::Either::when_refused, bench_state::proofs::Either::refused_answered, bench_state::proofs::Either::accepted_answered, bench_state::proofs::Either::nothing_left, bench_state::proofs::Either::left, bench_state::proofs::Ended::ended_some))]
 pub fn arrive(
     watch: Watch,
     bench: Bench,
@@ -65,6 +69,7 @@ pub fn arrive(
 }
 
 // Kind 07: B's disk takes octets.
+#[tactic(auto, unfolding(crate::specs::Arriving::taking_number, crate::specs::Arriving::taking_by, recorder::specs::Watching::taking_refusal, recorder::specs::Watching::taking_leaves))]
 pub fn take_octets(
     watch: Watch,
     bench: Bench,

@@ -1,5 +1,7 @@
 // Kind 05 of the bench: B starts the PFC frame that asks A to pause, or to go on. Arrays of any size are taken: what has no place in them is not
 // written.
+#![tactic(auto)]
+
 ghost use Rattle.std.specs.Prelude.{◌≡◌};
 ghost use Rattle.bench_meaning.specs.Step.{pfc_now};
 ghost use Rattle.bench_state.specs.Answered.{answered, Pushed};
@@ -13,6 +15,7 @@ use rows::Direction;
 const SOURCE_B: [u8; 6] = [0x02, 0x00, 0x00, 0x00, 0x00, 0x0B];
 
 // The number of kind 05: 39, 34 and 36 in this order, else 0.
+#[tactic(auto, unfolding(crate::specs::Asking::pfc_number))]
 fn pfc_number(bench: Bench) -> u8
     ensures { result ≡ pfc_number bench }
 {
@@ -27,6 +30,7 @@ fn pfc_number(bench: Bench) -> u8
 }
 
 // The PFC frame as B sends it with the marks as they stand.
+#[tactic(auto, unfolding(frame_build::specs::Build::buffer_for, frame_build::specs::Build::build_verdict, frame_build::specs::Build::built_by, ground::specs::First::first_of, frame_build::specs::Build::order_by, ground::specs::Pick::pick))]
 fn pfc_octets(watch: Watch, bench: Bench) -> [u8; 60]
     ensures { result ≡ pfc_now watch bench.marks }
 {
@@ -38,6 +42,7 @@ fn pfc_octets(watch: Watch, bench: Bench) -> [u8; 60]
 }
 
 // Kind 05: B starts the PFC frame, with the marks as they stand.
+#[tactic(auto, using(bench_state::proofs::Either::refused_answered, bench_state::proofs::Either::accepted_answered, bench_state::proofs::Either::nothing_pushed, bench_state::proofs::Either::pushed, crate::proofs::Room::pfc_room, crate::proofs::Room::end_now))]
 pub fn start_pfc(watch: Watch, bench: Bench, ends: &mut [u64], slots: &mut [u8]) -> Stepped
     ensures { (result ≡ answered (pfc_number bench) bench (pfc_joins bench))
         × Pushed (pfc_number bench) bench.to_a (pfc_end bench.clock).0 (pfc_now watch bench.marks)

@@ -1,5 +1,7 @@
 // The bench: reads records on standard input, runs them and prints the report in document 01's form; what a refusal means is said on standard
 // error. Where the input cannot be read there is no report, and where it cannot be written that is said.
+#![tactic(auto)]
+
 mod meaning;
 
 ghost use Rattle.std.specs.Prelude.{◌<◌};

@@ -1,10 +1,12 @@
 // What the bench means: definitions alone (specs/), with the types that a run answers. No function stands here; the crates that walk,
 // step and run promise to equal these definitions.
+#![tactic(auto)]
+
 use units::OctetTimes;
 
 // All that is printed: the records accepted after the settings, the time, the refusal or 0 and its record number, the enabled
 // priorities, and for each priority what is held, what was dropped, the worst and A's timer.
-#[derive(Drop)]
+#[derive(Clone, Copy)]
 pub struct Report {
     pub steps: u64,
     pub time: OctetTimes,

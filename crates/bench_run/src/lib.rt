@@ -1,4 +1,6 @@
 // A run over a whole input: the settings, then the records that follow them.
+#![tactic(auto)]
+
 ghost use Rattle.std.specs.Prelude.{◌≡◌, ◌≤◌, length};
 ghost use Rattle.bench_meaning.specs.Run.{settings_in, refused_report, is_missing, input_refusal, settled_of, run_of};
 
@@ -14,6 +16,7 @@ const MOST_INPUT: usize = 65_536;
 const SETTINGS_LENGTH: usize = 58;
 
 // The eight rooms, from priority 0 up.
+#[tactic(auto, using(ground::proofs::Eight::eight_is))]
 fn rooms_in(input: &[u8]) -> [u64; 8]
     ensures { result ≡ (settings_in input.now).rooms }
 {
@@ -65,6 +68,7 @@ fn refused_report(number: u8) -> Report
 }
 
 // Whether the settings are missing: no octet at all, or a first record of another kind.
+#[tactic(auto, unfolding(bench_meaning::specs::Run::is_missing, ground::specs::Pick::pick))]
 fn is_missing(kind: u8, size: usize) -> bool
     ensures { result ≡ is_missing kind size }
 {
@@ -75,6 +79,7 @@ fn is_missing(kind: u8, size: usize) -> bool
 }
 
 // 45, 44 and 31 of an input by its first octet and its length, in this order; 0 where none of them holds.
+#[tactic(auto, unfolding(bench_meaning::specs::Run::input_refusal, ground::specs::First::first_of, ground::specs::Pick::pick))]
 fn input_refusal(kind: u8, size: usize) -> u8
     ensures { result ≡ input_refusal kind size }
 {
@@ -91,6 +96,7 @@ fn input_refusal(kind: u8, size: usize) -> u8
 }
 
 // Settings of 58 octets or more, and what follows them.
+#[tactic(auto, using(crate::proofs::Running::settled_refused, crate::proofs::Running::settled_accepted, ground::proofs::Parts::take_rest))]
 fn settled(input: &[u8]) -> Report
     requires { 58 ≤ length input.now }
     ensures { result ≡ settled_of input.now }
@@ -107,6 +113,7 @@ fn settled(input: &[u8]) -> Report
 }
 
 // The run over a whole input of at most 65,536 octets; one that is longer is refused, whatever stands in it.
+#[tactic(auto, using(crate::proofs::Running::whole_settings, crate::proofs::Running::run_refused, crate::proofs::Running::run_settled))]
 pub fn run(input: &[u8]) -> Report
     ensures { result ≡ run_of input.now }
 {

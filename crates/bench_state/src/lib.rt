@@ -1,4 +1,6 @@
 // How the code holds the bench's state, and what a step answers.
+#![tactic(auto)]
+
 ghost use Rattle.std.specs.Prelude.{◌≡◌};
 ghost use Rattle.bench_state.specs.Answered.{number_of, outcome_of, said, busy_until, ended_in};
 
@@ -9,7 +11,7 @@ use units::OctetTimes;
 
 // What goes by value through every step: the clock, both stations and both directions; data frames go to B, PFC frames to A. The
 // numbers of the recorder's rooms and the frames under way stand in lent arrays.
-#[derive(Drop)]
+#[derive(Clone, Copy)]
 pub struct Bench {
     pub clock: OctetTimes,
     pub head: Head,
@@ -19,20 +21,21 @@ pub struct Bench {
 }
 
 // A record is accepted, or refused by a number of document 01.
-#[derive(Drop)]
+#[derive(Clone, Copy)]
 pub enum Outcome {
     Accepted,
     Refused(u8),
 }
 
 // What a step answers: the record's outcome, and what goes by value after it.
-#[derive(Drop)]
+#[derive(Clone, Copy)]
 pub struct Stepped {
     pub outcome: Outcome,
     pub bench: Bench,
 }
 
 // The outcome of a record with this number; 0 stands for none.
+#[tactic(auto, using(crate::proofs::Either::outcome_none, crate::proofs::Either::outcome_some))]
 pub fn outcome_of(number: u8) -> Outcome
     ensures { (number_of result ≡ number) × (result ≡ outcome_of number) }
 {
@@ -43,6 +46,7 @@ pub fn outcome_of(number: u8) -> Outcome
 }
 
 // Document 01's number of an outcome, or 0.
+#[tactic(auto, unfolding(crate::specs::Answered::number_of))]
 pub fn number_of(outcome: Outcome) -> u8
     ensures { result ≡ number_of outcome }
 {
@@ -64,6 +68,7 @@ pub fn refused(number: u8, bench: Bench) -> Stepped
 }
 
 // A record that is accepted: no number, and what goes by value after it.
+#[tactic(auto, unfolding(crate::specs::Answered::outcome_of, ground::specs::Pick::pick))]
 pub fn accepted(next: Bench) -> Stepped
     ensures { result ≡ said 0 next }
 {
@@ -82,6 +87,7 @@ pub fn is_busy(direction: Direction, clock: OctetTimes) -> bool
 }
 
 // 37 of a direction: no frame is under way, or the oldest one's wire time has not ended; else 0.
+#[tactic(auto, unfolding(crate::specs::Answered::ended_in))]
 pub fn ended_number(ends: &[u64], direction: Direction, clock: OctetTimes) -> u8
     ensures { result ≡ ended_in direction.count ends.now clock.0 }
 {

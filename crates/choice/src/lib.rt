@@ -1,4 +1,6 @@
 // The choice at station A: which class queue sends next, by the priority at each queue's front and what is paused.
+#![tactic(auto)]
+
 ghost use Rattle.std.specs.Prelude.{◌≡◌, ◌<◌};
 ghost use Rattle.ground.specs.Eight.{eight, some};
 ghost use Rattle.ground.specs.First.{first_of};
@@ -7,7 +9,7 @@ ghost use Rattle.choice.specs.Choice.{choice, choice_at, choosing_order, highest
 use head::Head;
 
 // What choice answers: a class, or that none may send, or the number of a refusal.
-#[derive(Drop)]
+#[derive(Clone, Copy)]
 pub enum Choice {
     Class(u8),
     Nothing,
@@ -16,6 +18,7 @@ pub enum Choice {
 
 // The highest class whose front is present and not paused, or none. fronts has the front of each class queue, a priority 0 to 7 or
 // 8 for an empty queue; map the class of each priority; paused the paused mark of each priority. Refused by number: 22, 20, 21.
+#[tactic(auto, using(crate::proofs::Refusals::choice_by, crate::proofs::Refusals::number_by, crate::proofs::Highest::chosen_free, crate::proofs::Highest::chosen_refused))]
 pub fn choose(fronts: [u8; 8], map: [u8; 8], paused: [bool; 8]) -> Choice
     ensures { (number_of result ≡ first_of (choosing_order fronts map)) × (result ≡ choice fronts map paused) }
 {
@@ -36,6 +39,7 @@ pub fn choose_at(head: Head, fronts: [u8; 8], map: [u8; 8]) -> Choice
 }
 
 // The number of the first refusal that holds, 22, 20, 21, or 0: by whether a map entry is above 7, a front above 8, a front misplaced.
+#[tactic(auto, using(ground::proofs::Tests::tests), unfolding(ground::specs::Pick::pick, ground::specs::First::first_of, crate::specs::Choice::order_by))]
 fn refused(wild: bool, high: bool, misplaced: bool) -> u8
     ensures { result ≡ first_of (order_by wild high misplaced) }
 {
@@ -80,6 +84,7 @@ fn is_misplaced(fronts: [u8; 8], map: [u8; 8], class: usize) -> bool
 }
 
 // Whether that holds of some class.
+#[tactic(auto, using(ground::proofs::Eight::eight_is))]
 fn some_misplaced(fronts: [u8; 8], map: [u8; 8]) -> bool
     ensures { result ≡ some (eight (is_misplaced fronts map)) }
 {
@@ -105,6 +110,7 @@ fn may_go(fronts: [u8; 8], paused: [bool; 8], class: usize) -> bool
 }
 
 // The highest class that may go, or none.
+#[tactic(auto, using(crate::proofs::Highest::highest_below, crate::proofs::Highest::highest_here, crate::proofs::Highest::highest_none))]
 fn highest_free(fronts: [u8; 8], paused: [bool; 8]) -> Choice
     ensures { result ≡ highest (may_go fronts paused) 8 }
 {

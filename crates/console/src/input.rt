@@ -67,6 +67,7 @@ fn told(name: &[u8], error: i32, count: usize) -> Reading
 
 // Reads standard input to its end, or until the buffer is full. A read that fails is told on standard error, behind the program's name.
 // (A loop that is proved has to end: the turns are counted down from a number that no run uses up.)
+#[tactic(auto, using(crate::proofs::Rest::within_rest))]
 pub fn read_whole(name: &[u8], buffer: &mut [u8]) -> Reading
     ensures { IsPrefixLen result.count buffer.new }
 {

@@ -6,6 +6,7 @@ ghost use Rattle.decisions.specs.Chains.{wait_number};
 const LAST_MOMENT: u64 = 1_099_511_627_776;
 
 // 41 of the moment that would be reached, 40.
+#[tactic(auto, unfolding(crate::specs::Chains::wait_number, ground::specs::First::first_of, ground::specs::Pick::pick))]
 pub fn wait_number(reached: u64, overrun: bool) -> u8
     ensures { result ≡ wait_number reached overrun }
 {

@@ -5,6 +5,7 @@ ghost use Rattle.decisions.specs.Chains.{start_data_number};
 use crate::MOST_UNDER_WAY;
 
 // 32, 33, 34, 35, 36.
+#[tactic(auto, unfolding(crate::specs::Chains::start_data_number, ground::specs::First::first_of, ground::specs::Pick::pick))]
 pub fn start_data_number(priority: u8, outside: bool, busy: bool, paused: bool, count: u64) -> u8
     ensures { result ≡ start_data_number priority outside busy paused count }
 {

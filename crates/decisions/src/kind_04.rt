@@ -3,6 +3,7 @@ ghost use Rattle.std.specs.Prelude.{◌≡◌};
 ghost use Rattle.decisions.specs.Chains.{start_other_number};
 
 // 33, 34, 38.
+#[tactic(auto, unfolding(crate::specs::Chains::start_other_number, ground::specs::First::first_of, ground::specs::Pick::pick))]
 pub fn start_other_number(outside: bool, busy: bool, late: bool) -> u8
     ensures { result ≡ start_other_number outside busy late }
 {

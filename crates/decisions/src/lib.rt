@@ -1,5 +1,7 @@
 // Which of document 01's numbers a record of the bench gives, once what it asks about is known: a file a kind, each trying its
 // refusals in document 01's order and answering 0 where none holds.
+#![tactic(auto)]
+
 ghost use Rattle.std.specs.Prelude.{◌≡◌};
 ghost use Rattle.decisions.specs.Chains.{length_outside};
 
@@ -16,6 +18,7 @@ const LEAST_LENGTH: u64 = 64;
 pub const MOST_UNDER_WAY: u64 = 128;
 
 // 33: a length outside 64 to M.
+#[tactic(auto, using(ground::proofs::Tests::tests), unfolding(ground::specs::Pick::pick, crate::specs::Chains::length_outside))]
 pub fn length_outside(largest: u64, length: u64) -> bool
     ensures { result ≡ length_outside largest length }
 {

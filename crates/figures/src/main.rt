@@ -1,6 +1,8 @@
 // Does one piece of work turn after turn and prints a sum over the answers, as docs/FIGURES.md says, so that what the libraries cost can
 // be measured from outside. Nothing is proved of the sum but that working it out is safe and ends. Where the input cannot be read there is
 // no sum, and that is said on standard error.
+#![tactic(auto)]
+
 mod frames;
 mod recording;
 mod station;

@@ -1,4 +1,6 @@
 // The PFC frame of document 01: its constants, and reading one. Any octets and any lengths are answered; no caller checks first.
+#![tactic(auto)]
+
 ghost use Rattle.std.specs.Prelude.{not, ◌&&◌, [], ◌∷◌, ◌≡◌, ◌-◌, ltb, eqb};
 ghost use Rattle.ground.specs.First.{first_of, ◌gives◌};
 ghost use Rattle.ground.specs.Pick.{pick};
@@ -18,7 +20,7 @@ pub const CONTROL_TYPE: u16 = 0x8808;
 pub const PFC_OPCODE: u16 = 0x0101;
 
 // What a PFC frame asks: the enable octet, whose bit n is e[n], and time[0] to time[7] in quanta, valid or not.
-#[derive(Drop)]
+#[derive(Clone, Copy)]
 pub struct Request {
     pub e: u8,
     pub t0: u16,
@@ -32,7 +34,7 @@ pub struct Request {
 }
 
 // What a frame is. (An enum holds no array, so a request's times stand in it one by one; `times_of` gives them as an array.)
-#[derive(Drop)]
+#[derive(Clone, Copy)]
 pub enum Verdict {
     Data,
     Asks(Request),
@@ -41,6 +43,7 @@ pub enum Verdict {
 
 // The number of the first of 13, 1 and 2 that holds, or 0: by whether M is outside its limits, the frame shorter than 60 octets, longer than
 // M - 4. (They are tried before any octet is looked at: the frame's length is known then.)
+#[tactic(auto, using(ground::proofs::Tests::tests), unfolding(ground::specs::Pick::pick, ground::specs::First::first_of))]
 fn size_refused(outside: bool, short: bool, long: bool) -> u8
     ensures { result ≡ first_of (outside gives 13 ∷ short gives 1 ∷ long gives 2 ∷ []) }
 {
@@ -57,6 +60,7 @@ fn size_refused(outside: bool, short: bool, long: bool) -> u8
 }
 
 // The number of the first of 3 and 4 that holds, or 0: a control frame for another address, one of another opcode.
+#[tactic(auto, using(ground::proofs::Tests::tests), unfolding(ground::specs::Pick::pick, ground::specs::First::first_of))]
 fn control_refused(elsewhere: bool, other: bool) -> u8
     ensures { result ≡ first_of (elsewhere gives 3 ∷ other gives 4 ∷ []) }
 {
@@ -69,6 +73,7 @@ fn control_refused(elsewhere: bool, other: bool) -> u8
     0
 }
 
+#[tactic(auto, using(ground::proofs::Tests::tests), unfolding(ground::specs::Pick::pick, crate::specs::Read::is_outside))]
 fn is_outside(largest: u64) -> bool
     ensures { result ≡ is_outside largest }
 {
@@ -88,6 +93,7 @@ fn is_long(size: u64, largest: u64) -> bool
     largest - 4 < size
 }
 
+#[tactic(auto, unfolding(crate::specs::Read::is_accepted, ground::specs::Pick::pick))]
 fn is_accepted(own: u64, to: u64) -> bool
     ensures { result ≡ is_accepted own to }
 {
@@ -114,6 +120,7 @@ fn request_in(frame: &[u8]) -> Request
     }
 }
 
+#[tactic(auto, unfolding(crate::specs::Read::is_control))]
 fn is_control(frame: &[u8]) -> bool
     ensures { result ≡ is_control frame.now }
 {
@@ -141,6 +148,7 @@ fn is_other(control: bool, frame: &[u8]) -> bool
 }
 
 // A frame that is not refused: a control frame's request, or data.
+#[tactic(auto, unfolding(ground::specs::Pick::pick))]
 fn taken(control: bool, frame: &[u8]) -> Verdict
     ensures { result ≡ pick control (Asks (request_in frame.now)) Data }
 {
@@ -152,6 +160,7 @@ fn taken(control: bool, frame: &[u8]) -> Verdict
 
 // What a frame is to a station with this own address, where the largest frame is M: document 01's order of refusals 13, 1, 2, then
 // data, then 3, 4, else the request. The first octet of the enable vector and octets 34 on are not looked at.
+#[tactic(auto, using(crate::proofs::Reading::size_number, crate::proofs::Reading::control_number, crate::proofs::Reading::taken_by, crate::proofs::Reading::read_by, crate::proofs::Reading::verdict_refused, crate::proofs::Reading::verdict_taken))]
 pub fn read(frame: &[u8], largest: u64, own: [u8; 6]) -> Verdict
     ensures { (number_of result ≡ first_of (reading_order frame.now largest own)) × (result ≡ verdict frame.now largest own) }
 {
@@ -182,6 +191,7 @@ fn part_start(found: Verdict, size: usize) -> usize
 }
 
 // The part of a data frame from octet 12 on, the caller's own octets; of any other frame an empty part.
+#[tactic(auto, using(ground::proofs::Parts::take_rest, crate::proofs::Reading::part_from, crate::proofs::Reading::start_within))]
 pub fn part(frame: &[u8], largest: u64, own: [u8; 6]) -> &[u8]
     ensures { result.now ≡ part_of frame.now largest own }
 {

@@ -1,17 +1,20 @@
 // Building the PFC frame of document 01 in a buffer that the caller lends.
+#![tactic(auto)]
+
 ghost use Rattle.std.specs.Prelude.{◌≡◌, ◌++◌, ◌≤◌, length, replicate};
 ghost use Rattle.ground.specs.First.{first_of};
 ghost use Rattle.frame_build.specs.Build.{order_by, building_order, build_number_of, build_verdict};
 ghost use Rattle.frame_build.specs.Build.{put_before, buffer_after, lead_octets, all_time_octets};
 
 // What building answers.
-#[derive(Drop)]
+#[derive(Clone, Copy)]
 pub enum Built {
     Written,
     Refused(u8),
 }
 
 // The octets of eight times, two each.
+#[tactic(auto, using(crate::proofs::Building::times_joined))]
 fn time_octets(times: [u16; 8]) -> [u8; 16]
     ensures { result ≡ all_time_octets times }
 {
@@ -56,6 +59,7 @@ fn lead_octets(source: [u8; 6], e: u8) -> [u8; 18]
 }
 
 // The 60 octets of a frame: those before the times, the times, zeroes.
+#[tactic(auto, using(crate::proofs::Building::parts_joined))]
 fn frame_octets(lead: [u8; 18], times: [u8; 16]) -> [u8; frame::FRAME_OCTETS]
     ensures { result ≡ lead ++ times ++ replicate 26 0 }
 {
@@ -66,6 +70,7 @@ fn frame_octets(lead: [u8; 18], times: [u8; 16]) -> [u8; frame::FRAME_OCTETS]
 }
 
 // The number of the first refusal that holds, 5, 6, or 0: by the buffer's length and the source's first octet.
+#[tactic(auto, using(ground::proofs::Tests::tests), unfolding(ground::specs::Pick::pick, ground::specs::First::first_of, crate::specs::Build::order_by))]
 fn refused(size: usize, first: u8) -> u8
     ensures { result ≡ first_of (order_by size first) }
 {
@@ -88,6 +93,7 @@ fn put(made: &[u8], buffer: &mut [u8])
 
 // Writes the PFC frame with this source, enable octet and times into the buffer's first 60 octets and leaves the rest. A buffer under
 // 60 octets is refused with 5, a source with the group bit with 6, and then no octet changes.
+#[tactic(auto, using(crate::proofs::Building::build_by, crate::proofs::Building::built_refused, crate::proofs::Building::built_written, crate::proofs::Building::has_room), unfolding(crate::specs::Build::buffer_for))]
 pub fn build(buffer: &mut [u8], source: [u8; 6], e: u8, times: [u16; 8]) -> Built
     ensures { (build_number_of result ≡ first_of (building_order (length buffer.old) source))
         × (result ≡ build_verdict (length buffer.old) source)

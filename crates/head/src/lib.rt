@@ -1,5 +1,7 @@
 // Station A, the camera head: the eight pause timers that PFC requests set. A state goes by value: a function takes one and answers with
 // one, on any input.
+#![tactic(auto)]
+
 ghost use Rattle.std.specs.Prelude.{◌≡◌, ◌+◌, ◌-◌, ◌%◌, ◌^◌, ◌<◌, min, slice_index};
 ghost use Rattle.ground.specs.Eight.{eight};
 ghost use Rattle.head.specs.Timers.{after_quanta, after_request, is_paused, lowered, start};
@@ -9,7 +11,7 @@ use units::Quanta;
 
 // The receiver's state: the priorities that PFC is enabled for (bit n is priority n), the timers in quanta, and the count of
 // indications received.
-#[derive(Drop)]
+#[derive(Clone, Copy)]
 pub struct Head {
     pub enabled: u8,
     pub timers: [u16; 8],
@@ -30,6 +32,7 @@ impl Head {
 
     // A request is taken: it replaces the timers that it names and PFC is enabled for, and counts as an indication, whatever it
     // names.
+    #[tactic(auto, using(crate::proofs::Heads::heads_equal, crate::proofs::Marks::replaced_all_lem))]
     pub fn taken(self, e: u8, times: [u16; 8]) -> Head
         ensures { result ≡ after_request self e times }
     {
@@ -43,6 +46,7 @@ impl Head {
     }
 
     // A count of quanta passes, any count: each timer is lowered by it, not below zero.
+    #[tactic(auto, using(crate::proofs::Heads::heads_equal))]
     pub fn passed(self, count: Quanta) -> Head
         ensures { result ≡ after_quanta self count.0 }
     {
@@ -56,6 +60,7 @@ impl Head {
     }
 
     // Whether a priority is paused. A priority above 7 has no timer and is not.
+    #[tactic(auto, using(crate::proofs::Timers::not_paused_past))]
     pub fn is_paused(self, priority: u8) -> bool
         ensures { result ≡ is_paused self priority }
     {
@@ -109,6 +114,7 @@ fn replaced_at(e: [bool; 8], enabled: [bool; 8], times: [u16; 8], timers: [u16; 
 }
 
 // The timers after a request.
+#[tactic(auto, using(ground::proofs::Eight::eight_is))]
 fn replaced(e: [bool; 8], enabled: [bool; 8], times: [u16; 8], timers: [u16; 8]) -> [u16; 8]
     ensures { result ≡ replaced_all e enabled times timers }
 {
@@ -147,6 +153,7 @@ fn lowered_at(timers: [u16; 8], n: usize, quanta: u16) -> u16
 }
 
 // The timers after a count of quanta, in one stroke: a comparison and a subtraction for each.
+#[tactic(auto, using(crate::proofs::Lowered::lowered_by_least, ground::proofs::Eight::eight_is))]
 fn lowered_by(timers: [u16; 8], count: u64) -> [u16; 8]
     ensures { result ≡ lowered timers count }
 {

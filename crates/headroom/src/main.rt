@@ -1,5 +1,7 @@
 // The headroom sum for a support engineer: the cable, the rate, the largest frame and the delays go in as words, and the room to
 // keep comes out item by item.
+#![tactic(auto)]
+
 mod print;
 
 use headroom_sum::{HaltLimit, Inputs, Summed};

@@ -1,5 +1,7 @@
 // The headroom sum of document 01: from the rate, the cable, the largest frame and the delays to the room that a recorder keeps. Every
 // input is answered: by the sum, item by item, or by document 01's refusal number.
+#![tactic(auto)]
+
 ghost use Rattle.std.specs.Prelude.{◌≡◌, [], ◌∷◌, ◌≤◌};
 ghost use Rattle.ground.specs.First.{◌gives◌, first_of};
 ghost use Rattle.units.specs.Units.{bits_of_octets, wire_time};
@@ -27,7 +29,7 @@ const LIGHT_SPEED: u64 = 299_792_458;
 
 // What the sum is made of: the rate in Mb/s, the cable's metres, the signal's speed as a percentage of light's, the largest frame
 // M in octets with FCS, and the delays in bit times. Any numbers may be given.
-#[derive(Drop)]
+#[derive(Clone, Copy)]
 pub struct Inputs {
     pub rate: u64,
     pub metres: u64,
@@ -42,7 +44,7 @@ pub struct Inputs {
 }
 
 // The sum item by item: the link, the two paths and the total in bit times, and what is kept in octet times.
-#[derive(Drop)]
+#[derive(Clone, Copy)]
 pub struct Items {
     pub link: BitTimes,
     pub request_path: BitTimes,
@@ -51,19 +53,20 @@ pub struct Items {
     pub room: Kept,
 }
 
-#[derive(Drop)]
+#[derive(Clone, Copy)]
 pub enum Summed {
     Whole(Items),
     Refused(u8),
 }
 
-#[derive(Drop)]
+#[derive(Clone, Copy)]
 pub enum HaltLimit {
     Limit(Quanta),
     Refused(u8),
 }
 
 // The limit of the halt delay at each rate in Mb/s: 6,144, 24,576 and 61,440 bits; 10 for a number that is no rate.
+#[tactic(auto, using(ground::proofs::Tests::tests, crate::proofs::Exactly::limit_promised, crate::proofs::Rate::at_rate), unfolding(ground::specs::Pick::pick, crate::specs::Rates::limit_answer, crate::specs::Rates::halt_limit))]
 pub fn halt_limit(rate: u64) -> HaltLimit
     ensures { (limit_number_of result ≡ first_of (limit_order rate)) × (result ≡ limit_answer rate) }
 {
@@ -76,6 +79,7 @@ pub fn halt_limit(rate: u64) -> HaltLimit
 }
 
 // The bit times that the link holds.
+#[tactic(auto, using(crate::proofs::Link::product_small, crate::proofs::Link::scaled_small, crate::proofs::Link::sum_small, crate::proofs::Link::link_small), unfolding(crate::specs::Link::link_bits))]
 fn link_bits(metres: u64, rate: u64, percentage: u64) -> BitTimes
     requires { (metres ≤ largest_metres) × (rate ≤ largest_rate) × (least_percentage ≤ percentage) × (percentage ≤ largest_percentage) }
     ensures { (result.0 ≡ link_bits metres rate percentage) × (result.0 ≤ largest_path) }
@@ -127,6 +131,7 @@ fn total_bits(largest: u64, generation: BitTimes, request: BitTimes, data: BitTi
 }
 
 // 14 by the generation and the paths, then 19; else the sum.
+#[tactic(auto, using(crate::proofs::Exactly::answered_by, crate::proofs::Order::over_halt, crate::proofs::Order::within_halt, crate::proofs::Order::items_made, room_to_keep::proofs::Room::IsRoom, room_to_keep::proofs::Room::is_room, room_to_keep::proofs::Room::is_14), unfolding(ground::specs::Pick::pick, ground::specs::First::first_of))]
 fn after_paths(
     inputs: Inputs,
     link: BitTimes,
@@ -154,6 +159,7 @@ fn after_paths(
 }
 
 // 13: M is outside its range.
+#[tactic(auto, using(ground::proofs::Tests::tests), unfolding(ground::specs::Pick::pick))]
 fn outside_m(largest: u64) -> bool
     ensures { result ≡ refused13 largest }
 {
@@ -164,6 +170,7 @@ fn outside_m(largest: u64) -> bool
 }
 
 // 14 by a station delay.
+#[tactic(auto, using(ground::proofs::Tests::tests), unfolding(ground::specs::Pick::pick))]
 fn station_over(
     b_transmit: BitTimes,
     b_receive: BitTimes,
@@ -185,6 +192,7 @@ fn station_over(
 }
 
 // 13, then 14 by a station delay or by a halt that is above a path's limit by itself; then the paths fit and are tried whole.
+#[tactic(auto, using(crate::proofs::Exactly::answered_by, crate::proofs::Order::halt_alone, crate::proofs::Order::stations_within), unfolding(ground::specs::First::first_of, ground::specs::Pick::pick))]
 fn after_link(inputs: Inputs, link: BitTimes, halting: BitTimes) -> Summed
     requires { Linked inputs link.0 halting.0 }
     ensures { result ≡ summed inputs }
@@ -209,6 +217,7 @@ fn after_link(inputs: Inputs, link: BitTimes, halting: BitTimes) -> Summed
 }
 
 // 12: the percentage is outside its range.
+#[tactic(auto, using(ground::proofs::Tests::tests), unfolding(ground::specs::Pick::pick))]
 fn outside_percentage(percentage: u64) -> bool
     ensures { result ≡ refused12 percentage }
 {
@@ -219,6 +228,7 @@ fn outside_percentage(percentage: u64) -> bool
 }
 
 // 11, then 12; 0 where neither holds.
+#[tactic(auto, using(ground::proofs::Tests::tests), unfolding(ground::specs::Pick::pick, ground::specs::First::first_of))]
 fn cable_refusal(is_long: bool, is_outside: bool) -> u8
     ensures { result ≡ first_of (is_long gives 11 ∷ is_outside gives 12 ∷ []) }
 {
@@ -232,6 +242,7 @@ fn cable_refusal(is_long: bool, is_outside: bool) -> u8
 }
 
 // The headroom sum. Refusals 10, 11, 12, 13, 14, 19: the first whose condition holds.
+#[tactic(auto, using(crate::proofs::Exactly::answered_by, crate::proofs::Exactly::promised, crate::proofs::Order::CablePassed, crate::proofs::Order::in_order, crate::proofs::Order::cable_refused, crate::proofs::Order::cable_passed, crate::proofs::Rate::IsLimit, crate::proofs::Rate::is_limit, crate::proofs::Rate::is_no_rate, crate::proofs::Rate::rate_small, crate::proofs::Rate::limit_bits), unfolding(ground::specs::Pick::pick, ground::specs::First::first_of))]
 pub fn sum(inputs: Inputs) -> Summed
     ensures { (sum_number_of result ≡ first_of (sum_order inputs)) × (result ≡ summed inputs) }
 {

@@ -1,4 +1,6 @@
 // Table N-1's interface rows, and the delays of a stack of them.
+#![tactic(auto)]
+
 ghost use Rattle.std.specs.Prelude.{◌≡◌, map, ◌+◌, min};
 ghost use Rattle.ground.specs.First.{first_of};
 ghost use Rattle.interface_rows.specs.TableN1.{row_at, row_number_of, transmit_half, receive_half};
@@ -8,17 +10,17 @@ use limits::LARGEST_DELAY;
 use units::{BitTimes, Quanta};
 
 // A row: the delay of both directions together, in bits and in quanta.
-#[derive(Drop)]
+#[derive(Clone, Copy)]
 pub struct Row(pub BitTimes, pub Quanta);
 
-#[derive(Drop)]
+#[derive(Clone, Copy)]
 pub enum RowAt {
     Found(Row),
     Unknown,
 }
 
 // A stack's transmit and receive delay; or 14 where one is above what a station delay may be; or a row that the table lacks.
-#[derive(Drop)]
+#[derive(Clone, Copy)]
 pub enum Stacked {
     Delays(BitTimes, BitTimes),
     Refused(u8),
@@ -59,6 +61,7 @@ pub const TABLE_N_1: [Row; ROWS] = [
 const ENOUGH: BitTimes = BitTimes(2 * LARGEST_DELAY.0 + 1);
 
 // The row at an index counted from 0; any number may be asked.
+#[tactic(auto, using(ground::proofs::Tests::tests, crate::proofs::Numbers::no_number), unfolding(ground::specs::Pick::pick, crate::specs::TableN1::row_at))]
 pub fn row_at(index: usize) -> RowAt
     ensures { (row_number_of result ≡ 0) × (result ≡ row_at index) }
 {
@@ -84,6 +87,7 @@ pub fn receive_of(row: Row) -> BitTimes
 }
 
 // The index of the row that an octet names, rows counted from first; past the table where the octet is below first.
+#[tactic(auto, using(ground::proofs::Tests::tests), unfolding(ground::specs::Pick::pick, crate::specs::Stack::index_from))]
 fn index_from(first: u8, octet: u8) -> usize
     ensures { result ≡ index_from first octet }
 {
@@ -102,6 +106,7 @@ fn more_bits(whole: BitTimes, row: BitTimes) -> BitTimes
 }
 
 // The two delays of a stack's bits.
+#[tactic(auto, using(ground::proofs::Tests::tests), unfolding(ground::specs::Pick::pick, crate::specs::Stack::delays_of))]
 fn halves(whole: BitTimes) -> Stacked
     ensures { result ≡ delays_of whole.0 }
 {
@@ -116,6 +121,7 @@ fn halves(whole: BitTimes) -> Stacked
 // The transmit and receive delay of a station whose interface is a stack of the table's rows, in any order and as often as they stand
 // in it. Each octet names a row, counted from first. Any octets are answered: one that names no row gives Unknown, a delay above
 // 1,048,576 gives 14.
+#[tactic(auto, using(crate::proofs::Numbers::promised, crate::proofs::Stack::Stacking, crate::proofs::Stack::start, crate::proofs::Stack::next, crate::proofs::Stack::stops, crate::proofs::Stack::ends))]
 pub fn stack_delays(first: u8, rows: &[u8]) -> Stacked
     ensures { (stack_number_of result ≡ first_of (stack_order (map (index_from first) rows.now)))
         × (result ≡ stack_answer (map (index_from first) rows.now)) }

@@ -1,4 +1,6 @@
 // What document 01 allows of a largest frame, of a delay and of a path: each number by name, once.
+#![tactic(auto)]
+
 use units::BitTimes;
 
 // The largest frame M, in octets with FCS: 64 to 9,216.

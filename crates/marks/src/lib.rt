@@ -1,5 +1,7 @@
 // Station B's marks (document 01, "Room watching at B"): for which priorities pause is wanted, since when a PFC frame is due, and what it
 // carries. They know nothing of the rooms that set them.
+#![tactic(auto)]
+
 ghost use Rattle.std.specs.Prelude.{◌≡◌, ◌<◌};
 ghost use Rattle.marks.specs.Marks.{fresh_marks, differ, with_mark, refresh_of, started_at, with_due, time_for, times_for};
 
@@ -7,7 +9,7 @@ use moments::Moment;
 use units::OctetTimes;
 
 // For which priorities pause is wanted, since when a PFC frame is due, when the last one started, and how many were sent, modulo 2^32.
-#[derive(Drop)]
+#[derive(Clone, Copy)]
 pub struct Marks {
     pub wanted: [bool; 8],
     pub due: Moment,
@@ -29,6 +31,7 @@ impl Marks {
     }
 }
 
+#[tactic(auto, using(crate::proofs::MarkLaws::differ_from_false), unfolding(crate::specs::Marks::differ))]
 fn differ(a: bool, b: bool) -> bool
     ensures { result ≡ differ a b }
 {
@@ -36,6 +39,7 @@ fn differ(a: bool, b: bool) -> bool
 }
 
 // The marks with this one at a priority: a PFC frame becomes due where it changed. A number above 7 has no mark and changes nothing.
+#[tactic(auto, using(crate::proofs::MarkLaws::mark_put, crate::proofs::MarkLaws::no_mark_put))]
 pub fn with_mark(marks: Marks, priority: u8, wanted: bool, clock: OctetTimes) -> Marks
     ensures { result ≡ with_mark marks priority wanted clock.0 }
 {
@@ -57,6 +61,7 @@ pub fn with_mark(marks: Marks, priority: u8, wanted: bool, clock: OctetTimes) ->
 }
 
 // The moment from which the refresh makes a PFC frame due, while some priority is wanted.
+#[tactic(auto, unfolding(crate::specs::Marks::refresh_of, ground::specs::Pick::pick))]
 pub fn refresh_of(marks: Marks, refresh: OctetTimes) -> Moment
     ensures { result ≡ refresh_of refresh.0 marks }
 {
@@ -70,6 +75,7 @@ pub fn refresh_of(marks: Marks, refresh: OctetTimes) -> Moment
 }
 
 // The marks once a PFC frame started: none is due any more, and one more was sent.
+#[tactic(auto, unfolding(crate::specs::Marks::started_at))]
 pub fn started(marks: Marks, clock: OctetTimes) -> Marks
     ensures { result ≡ started_at marks clock.0 }
 {
@@ -83,6 +89,7 @@ pub fn started(marks: Marks, clock: OctetTimes) -> Marks
 }
 
 // The marks with another due moment.
+#[tactic(auto, unfolding(crate::specs::Marks::with_due))]
 pub fn with_due(marks: Marks, due: Moment) -> Marks
     ensures { result ≡ with_due marks due }
 {
@@ -97,6 +104,7 @@ pub fn with_due(marks: Marks, due: Moment) -> Marks
 }
 
 // The time that the PFC frame carries for a priority below 8.
+#[tactic(auto, unfolding(crate::specs::Marks::time_for, ground::specs::Pick::pick))]
 fn time_for(marks: Marks, enabled: u8, pause: u16, n: usize) -> u16
     requires { n < 8 }
     ensures { result ≡ time_for enabled pause marks n }
@@ -111,6 +119,7 @@ fn time_for(marks: Marks, enabled: u8, pause: u16, n: usize) -> u16
 }
 
 // The eight times of the PFC frame as the marks stand: the pause time T where wanted and 0 elsewhere.
+#[tactic(auto, using(ground::proofs::Eight::eight_is), unfolding(crate::specs::Marks::times_for))]
 pub fn times_for(marks: Marks, enabled: u8, pause: u16) -> [u16; 8]
     ensures { result ≡ times_for enabled pause marks }
 {

@@ -1,9 +1,12 @@
 // Octets to numbers, and the bits of an octet. Any octets and any place are answered: an octet past the end counts as 0.
+#![tactic(auto)]
+
 ghost use Rattle.std.specs.Prelude.{◌≡◌, ◌<◌, ◌≤◌, ◌^◌};
 ghost use Rattle.ground.specs.Eight.{eight, is_set, some};
 ghost use Rattle.octets.specs.Numbers.{octet_at, word_at, long_at, address_at, wide_at, word_octets};
 
 // The octet at a place; 0 past the end.
+#[tactic(auto, using(crate::proofs::NumberLaws::no_octet))]
 pub fn octet_at(octets: &[u8], place: usize) -> u8
     ensures { result ≡ octet_at octets.now place }
 {
@@ -20,6 +23,7 @@ fn half(octet: u8) -> u16
 }
 
 // The number of two octets from a place on, most significant first.
+#[tactic(auto, using(crate::proofs::NumberLaws::no_word))]
 pub fn word_at(octets: &[u8], place: usize) -> u16
     ensures { result ≡ word_at octets.now place }
 {
@@ -37,6 +41,7 @@ fn long(word: u16) -> u64
 }
 
 // The number of four octets, with its bound for those below.
+#[tactic(auto, using(crate::proofs::NumberLaws::no_long))]
 fn four(octets: &[u8], place: usize) -> u64
     ensures { (result ≡ long_at octets.now place) × (result < 4294967296) }
 {
@@ -55,6 +60,7 @@ pub fn long_at(octets: &[u8], place: usize) -> u64
 }
 
 // The number of six octets from a place on, most significant first: an address.
+#[tactic(auto, using(crate::proofs::NumberLaws::no_address))]
 pub fn address_at(octets: &[u8], place: usize) -> u64
     ensures { result ≡ address_at octets.now place }
 {
@@ -66,6 +72,7 @@ pub fn address_at(octets: &[u8], place: usize) -> u64
 }
 
 // The number of eight octets from a place on, most significant first.
+#[tactic(auto, using(crate::proofs::NumberLaws::no_wide))]
 pub fn wide_at(octets: &[u8], place: usize) -> u64
     ensures { result ≡ wide_at octets.now place }
 {
@@ -78,6 +85,7 @@ pub fn wide_at(octets: &[u8], place: usize) -> u64
 
 // The two octets of a number, most significant first. They are taken from the number turned round, in the order in which they are
 // stored: the compiler then stores both at once, and the octets of several numbers in one go.
+#[tactic(auto, using(crate::proofs::NumberLaws::turned_round))]
 pub fn word_octets(number: u16) -> [u8; 2]
     ensures { result ≡ word_octets number }
 {
@@ -102,6 +110,7 @@ pub fn bits(octet: u8) -> [bool; 8]
 }
 
 // Whether bit n of an octet is set; it has no bit above 7.
+#[tactic(auto, using(crate::proofs::BitLaws::no_bit_past))]
 pub fn is_set(octet: u8, n: u8) -> bool
     ensures { result ≡ is_set octet n }
 {
@@ -109,6 +118,7 @@ pub fn is_set(octet: u8, n: u8) -> bool
 }
 
 // Whether one of eight marks is set.
+#[tactic(auto, using(crate::proofs::BitLaws::some_of_eight))]
 pub fn some_of(marks: [bool; 8]) -> bool
     ensures { result ≡ some marks }
 {

@@ -1,5 +1,7 @@
 // A page: octets that are collected before any of them is written, and how many are on it. What does not fit leaves the page as it is and
 // marks it overfull.
+#![tactic(auto)]
+
 ghost use Rattle.std.specs.Prelude.{◌≡◌, length};
 ghost use Rattle.page.specs.Page.{blank_page, used_after, octets_after, put_on, NumberPut};
 
@@ -24,6 +26,7 @@ pub fn blank() -> Page
 }
 
 // Words put behind the octets that are used: how many are used then. Where they do not fit the octets stay, and more than all are used.
+#[tactic(auto, using(crate::proofs::Room::past_end, crate::proofs::Room::too_many, crate::proofs::Room::with_room, crate::proofs::Room::put_back), unfolding(crate::specs::Page::octets_after, crate::specs::Page::used_after))]
 fn put_behind(octets: &mut [u8], used: usize, words: &[u8]) -> usize
     ensures value { result ≡ used_after (length octets.old) used (length words.now) }
     ensures octets_after { octets.new ≡ octets_after octets.old used words.now }

@@ -1,5 +1,7 @@
 // Station B, the recorder of document 01: its rooms, and the marks that they set. It knows nothing of the bench. The numbers of the eight
 // rooms are lent, four a room (held, dropped, span, worst); the marks, which are few, go by value.
+#![tactic(auto)]
+
 ghost use Rattle.std.specs.Prelude.{◌≡◌};
 ghost use Rattle.settings.specs.Settings.{room_of};
 ghost use Rattle.recorder.specs.Watching.{recorder_of, limits_of, arrived_with, refusal_with, leaves_with};
@@ -11,13 +13,14 @@ use settings::Settings;
 use units::OctetTimes;
 
 // Accepted settings with the sums that they carry.
-#[derive(Drop)]
+#[derive(Clone, Copy)]
 pub struct Watch {
     pub settings: Settings,
     pub kept: Kept,
 }
 
 // The room's size and marks of a priority; a number above 7 has no room.
+#[tactic(auto, unfolding(crate::specs::Watching::limits_of))]
 pub fn limits_of(watch: Watch, priority: u8) -> Limits
     ensures { result ≡ limits_of watch priority }
 {
@@ -42,6 +45,7 @@ fn size_of(sizes: [u64; 8], priority: u8) -> u64
 
 // A frame of this priority and length arrives at a room with these limits: it is held where it fits, else dropped and counted, and the
 // marks are tried. A priority that is not enabled, or above 7, changes nothing.
+#[tactic(auto, using(settings::proofs::SettingsLaws::enabled_below, crate::proofs::Marking::room_put), unfolding(crate::specs::Watching::arrived_with, ground::specs::Pick::pick))]
 pub fn arrived(
     numbers: &mut [[u64; 4]; 8],
     marks: Marks,
@@ -65,13 +69,14 @@ pub fn arrived(
 }
 
 // What a taking answers: document 01's number, or 0, and the marks, unchanged where the number is not 0.
-#[derive(Drop)]
+#[derive(Clone, Copy)]
 pub struct Taking {
     pub refusal: u8,
     pub marks: Marks,
 }
 
 // Octets of a priority are taken from a room with these limits: 32, 43 and 42 in this order, else they leave it and the marks are tried.
+#[tactic(auto, using(crate::proofs::Marking::room_put, crate::proofs::Marking::taking_32, crate::proofs::Marking::taking_43, crate::proofs::Marking::taking_42, crate::proofs::Marking::taking_0), unfolding(crate::specs::Watching::taken_with))]
 pub fn taken(
     numbers: &mut [[u64; 4]; 8],
     marks: Marks,

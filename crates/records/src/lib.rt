@@ -1,9 +1,11 @@
 // A record of the bench, taken from its octets.
+#![tactic(auto)]
+
 ghost use Rattle.std.specs.Prelude.{◌≡◌, ◌<◌, ◌≤◌, ◌+◌, length};
 ghost use Rattle.records.specs.Records.{body_length, body_of, is_repeated, sized_refusal, octets_refusal, decoded, record_number_of};
 
 // What a record asks, with its numbers, or the refusal of its octets.
-#[derive(Drop)]
+#[derive(Clone, Copy)]
 pub enum Record {
     // n octet times pass
     Wait(u16),
@@ -23,6 +25,7 @@ pub enum Record {
 }
 
 // The octets of a kind's body.
+#[tactic(auto, using(ground::proofs::Tests::tests), unfolding(ground::specs::Pick::pick, crate::specs::Records::body_length))]
 pub fn body_length(kind: u8) -> usize
     ensures { (result ≡ body_length kind) × (result ≤ 57) }
 {
@@ -44,6 +47,7 @@ pub fn body_length(kind: u8) -> usize
     0
 }
 
+#[tactic(auto, unfolding(ground::specs::Pick::pick, crate::specs::Records::body_of))]
 fn body(kind: u8, octets: &[u8]) -> Record
     ensures { result ≡ body_of kind octets.now }
 {
@@ -69,6 +73,7 @@ fn body(kind: u8, octets: &[u8]) -> Record
 }
 
 // Settings repeated; no octets at all are none.
+#[tactic(auto, unfolding(crate::specs::Records::is_repeated, ground::specs::Pick::pick))]
 fn is_repeated(kind: u8, size: usize) -> bool
     ensures { result ≡ is_repeated kind size }
 {
@@ -80,6 +85,7 @@ fn is_repeated(kind: u8, size: usize) -> bool
 
 // 44, 30 and 31 of a record of this kind with this many octets, of which its kind has a whole count, in their order; 0 where none of
 // them holds.
+#[tactic(auto, unfolding(crate::specs::Records::sized_refusal, ground::specs::First::first_of, ground::specs::Pick::pick))]
 fn refusal(kind: u8, size: usize, whole: usize) -> u8
     ensures { result ≡ sized_refusal kind size whole }
 {
@@ -96,6 +102,7 @@ fn refusal(kind: u8, size: usize, whole: usize) -> u8
 }
 
 // What the octets of a record after the settings ask; octets past the record are not looked at.
+#[tactic(auto, using(crate::proofs::Decoding::refusal_by, crate::proofs::Decoding::both, crate::proofs::Decoding::refused_is, crate::proofs::Decoding::asked_is))]
 pub fn decode(octets: &[u8]) -> Record
     ensures { (record_number_of result ≡ octets_refusal octets.now) × (result ≡ decoded octets.now) }
 {

@@ -1,5 +1,7 @@
 // What the programs say on standard error. Of a call that failed: what was tried, the system's number of the error (errno), and words for
 // the commonest. Where standard error fails too, nothing more can be said.
+#![tactic(auto)]
+
 ghost use Rattle.std.specs.Prelude.{◌<◌, ◌≡◌, false, length};
 ghost use Rattle.remarks.specs.Errors.{is_none};
 
@@ -55,6 +57,7 @@ fn say(name: &[u8], what: &[u8], error: i32) {
 }
 
 // Whether a call went well: its error is 0. One that did not is told, behind the program's name and what was tried.
+#[tactic(auto, unfolding(crate::specs::Errors::is_none))]
 pub fn tell(name: &[u8], what: &[u8], error: i32) -> bool
     ensures { result ≡ is_none error }
 {

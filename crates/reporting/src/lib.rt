@@ -1,4 +1,6 @@
 // The report of a run, from what the bench holds.
+#![tactic(auto)]
+
 ghost use Rattle.std.specs.Prelude.{[], ◌≡◌, ◌<◌, get_or};
 ghost use Rattle.ground.specs.Eight.{eight};
 ghost use Rattle.reporting.specs.Reporting.{standing};

@@ -1,5 +1,7 @@
 // How much room a recorder keeps so that nothing is lost while a pause request takes effect, in octet times: from the largest frame
 // M and the bits of the generation delay and of the two paths. Every input is answered: by what is kept, or by 13 or 14.
+#![tactic(auto)]
+
 ghost use Rattle.std.specs.Prelude.{◌≡◌, [], ◌∷◌, ◌+◌, ◌≤◌};
 ghost use Rattle.ground.specs.First.{◌gives◌, first_of};
 ghost use Rattle.units.specs.Units.{octets_of_bits, wire_time};
@@ -10,7 +12,7 @@ use limits::{LARGEST_DELAY, LARGEST_M, LARGEST_PATH, LEAST_M};
 use units::{BitTimes, OctetTimes};
 
 // What is kept in octet times: G, W, P, D, the one-way time and the headroom.
-#[derive(Drop)]
+#[derive(Clone, Copy)]
 pub struct Kept {
     pub generation: OctetTimes,
     pub wire: OctetTimes,
@@ -20,7 +22,7 @@ pub struct Kept {
     pub headroom: OctetTimes,
 }
 
-#[derive(Drop)]
+#[derive(Clone, Copy)]
 pub enum Keeping {
     Room(Kept),
     Refused(u8),
@@ -47,6 +49,7 @@ fn headroom_time(largest: u64, one_way: OctetTimes, data: BitTimes) -> OctetTime
     units::later(units::later(one_way, w), d)
 }
 
+#[tactic(auto, using(crate::proofs::Room::room_made))]
 fn room_of(largest: u64, generation: BitTimes, request: BitTimes, data: BitTimes) -> Kept
     requires { (largest ≤ largest_m) × (generation.0 ≤ largest_delay) × (request.0 ≤ largest_path) × («data».0 ≤ largest_path) }
     ensures { result ≡ kept largest generation.0 request.0 «data».0 }
@@ -63,6 +66,7 @@ fn room_of(largest: u64, generation: BitTimes, request: BitTimes, data: BitTimes
 }
 
 // 13: M is outside its range.
+#[tactic(auto, using(ground::proofs::Tests::tests), unfolding(ground::specs::Pick::pick))]
 fn outside_m(largest: u64) -> bool
     ensures { result ≡ refused13 largest }
 {
@@ -73,6 +77,7 @@ fn outside_m(largest: u64) -> bool
 }
 
 // 14 by the generation or by a path.
+#[tactic(auto, using(ground::proofs::Tests::tests), unfolding(ground::specs::Pick::pick))]
 fn over(generation: BitTimes, request: BitTimes, data: BitTimes) -> bool
     ensures { result ≡ refused14 generation.0 request.0 «data».0 }
 {
@@ -86,6 +91,7 @@ fn over(generation: BitTimes, request: BitTimes, data: BitTimes) -> bool
 }
 
 // 13, then 14; 0 where neither holds.
+#[tactic(auto, using(ground::proofs::Tests::tests), unfolding(ground::specs::Pick::pick, ground::specs::First::first_of))]
 fn first_of(is_outside: bool, is_over: bool) -> u8
     ensures { result ≡ first_of (is_outside gives 13 ∷ is_over gives 14 ∷ []) }
 {
@@ -99,6 +105,7 @@ fn first_of(is_outside: bool, is_over: bool) -> u8
 }
 
 // What is kept for a largest frame M, a generation delay and the bits of the two paths. Refusals 13 and 14: the first that holds.
+#[tactic(auto, using(crate::proofs::Exactly::in_order, crate::proofs::Exactly::refused_by, crate::proofs::Exactly::kept_by, crate::proofs::Exactly::promised, crate::proofs::Room::not_refused, crate::proofs::Room::within))]
 pub fn keep(largest: u64, generation: BitTimes, request: BitTimes, data: BitTimes) -> Keeping
     ensures { (keep_number_of result ≡ first_of (keep_order largest generation.0 request.0 «data».0))
         × (result ≡ keeping largest generation.0 request.0 «data».0) }

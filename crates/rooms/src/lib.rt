@@ -1,4 +1,6 @@
 // One room and the mark of the priorities that share it: here each enabled priority has a room of its own.
+#![tactic(auto)]
+
 ghost use Rattle.std.specs.Prelude.{◌≡◌, ◌+◌, ◌-◌};
 ghost use Rattle.rooms.specs.Room.{arrived_in, taken_from, room_in, numbers_of, limits_for};
 ghost use Rattle.rooms.specs.Room.{free_of, fits, held_after, dropped_after, span_after, span_kept, wanted_after, larger_of};
@@ -6,7 +8,7 @@ ghost use Rattle.units.specs.Units.{within64};
 
 // What is held, what was dropped, whether pause is wanted, the octets that arrived in the present wanted span (the crossing frame
 // not counted) and the largest such count so far.
-#[derive(Drop)]
+#[derive(Clone, Copy)]
 pub struct Room {
     pub held: u64,
     pub dropped: u64,
@@ -16,7 +18,7 @@ pub struct Room {
 }
 
 // The room's size, and the free room below which pause is wanted and from which it is no longer wanted, in octets.
-#[derive(Drop)]
+#[derive(Clone, Copy)]
 pub struct Limits {
     pub size: u64,
     pub mark: u64,
@@ -86,6 +88,7 @@ fn fits(size: u64, held: u64, length: u64) -> bool
     length <= free(size, held)
 }
 
+#[tactic(auto, unfolding(crate::specs::Room::held_after, ground::specs::Pick::pick))]
 fn held_after(size: u64, held: u64, length: u64) -> u64
     ensures { result ≡ held_after size held length }
 {
@@ -96,6 +99,7 @@ fn held_after(size: u64, held: u64, length: u64) -> u64
     }
 }
 
+#[tactic(auto, unfolding(crate::specs::Room::dropped_after, ground::specs::Pick::pick))]
 fn dropped_after(size: u64, held: u64, dropped: u64, length: u64) -> u64
     ensures { result ≡ dropped_after size held dropped length }
 {
@@ -106,12 +110,14 @@ fn dropped_after(size: u64, held: u64, dropped: u64, length: u64) -> u64
     }
 }
 
+#[tactic(auto, unfolding(crate::specs::Room::span_after, ground::specs::Pick::pick))]
 fn span_after(wanted: bool, span: u64, length: u64) -> u64
     ensures { result ≡ span_after wanted span length }
 {
     if wanted { more(span, length) } else { 0 }
 }
 
+#[tactic(auto, using(ground::proofs::Tests::tests), unfolding(ground::specs::Pick::pick, crate::specs::Room::span_kept))]
 fn span_kept(wanted: bool, span: u64) -> u64
     ensures { result ≡ span_kept wanted span }
 {
@@ -125,6 +131,7 @@ fn larger(a: u64, b: u64) -> u64
 }
 
 // Whether pause is wanted once this much is free: below the mark yes, from the resume mark on no, between the two as before.
+#[tactic(auto, using(ground::proofs::Tests::tests), unfolding(ground::specs::Pick::pick, crate::specs::Room::wanted_after))]
 fn wanted_after(limits: Limits, free: u64, before: bool) -> bool
     ensures { result ≡ wanted_after limits free before }
 {
@@ -138,6 +145,7 @@ fn wanted_after(limits: Limits, free: u64, before: bool) -> bool
 }
 
 // The room after a frame of this length arrived: held where it fits, else dropped and its octets counted; then the marks are tried.
+#[tactic(auto, unfolding(crate::specs::Room::arrived_in))]
 pub fn arrived(room: Room, limits: Limits, length: u64) -> Room
     ensures { result ≡ arrived_in limits room length }
 {
@@ -153,6 +161,7 @@ pub fn arrived(room: Room, limits: Limits, length: u64) -> Room
 }
 
 // The room after octets were taken, at most those that are held; then the marks are tried.
+#[tactic(auto, using(crate::proofs::Made::taken_made))]
 pub fn taken(room: Room, limits: Limits, octets: u64) -> Room
     ensures { result ≡ taken_from limits room octets }
 {

@@ -1,6 +1,8 @@
 // The frames under way in one direction, in lent arrays, oldest first: the moments at which their wire times end, and their octets in
 // slots of one width. A new frame is put behind the others; one that arrives leaves by the front, and the others move up. Arrays of any
 // size are taken: what has no place in them is not written.
+#![tactic(auto)]
+
 ghost use Rattle.std.specs.Prelude.{◌≡◌, ◌*◌, ◌-◌, min, length, set};
 ghost use Rattle.rows.specs.Rows.{oldest_in, written, shifted};
 
@@ -8,13 +10,14 @@ use moments::Moment;
 use units::OctetTimes;
 
 // What goes by value of a direction: the moment from which its wire is free, and how many frames are under way.
-#[derive(Drop)]
+#[derive(Clone, Copy)]
 pub struct Direction {
     pub free: OctetTimes,
     pub count: u64,
 }
 
 // When the wire time of the oldest frame ends, if one is under way.
+#[tactic(auto, unfolding(crate::specs::Rows::oldest_in, ground::specs::Pick::pick))]
 pub fn oldest(ends: &[u64], count: u64) -> Moment
     ensures { result ≡ oldest_in count ends.now }
 {
@@ -28,6 +31,7 @@ pub fn oldest(ends: &[u64], count: u64) -> Moment
 }
 
 // How many places so many slots of a width take, and no more than `most`: the product need not fit a word.
+#[tactic(auto, using(crate::proofs::Product::all_places, crate::proofs::Product::some_places, crate::proofs::Product::fit))]
 fn places(width: usize, count: u64, most: usize) -> usize
     ensures { result ≡ min (width * count) most }
 {
@@ -53,6 +57,7 @@ fn write_end(ends: &mut [u64], count: u64, end: u64)
 }
 
 // Writes octets at a place, if they fit there.
+#[tactic(auto, using(crate::proofs::Writing::written_out, crate::proofs::Writing::written_part))]
 fn write_at(slots: &mut [u8], place: usize, octets: &[u8])
     ensures { slots.new ≡ written place octets.now slots.old }
 {
@@ -66,6 +71,7 @@ fn write_at(slots: &mut [u8], place: usize, octets: &[u8])
 }
 
 // Puts a frame behind `count` others: its end at that place of the ends, its octets, as many as a slot has, in that slot.
+#[tactic(auto, using(crate::proofs::Writing::written_within))]
 pub fn push(ends: &mut [u64], slots: &mut [u8], count: u64, end: OctetTimes, octets: &[u8])
     ensures { (ends.new ≡ set ends.old count end.0)
         × (slots.new ≡ written (length octets.now * count) octets.now slots.old) }
@@ -86,6 +92,7 @@ fn movable(size: usize, width: usize, left: u64) -> usize
 }
 
 // Moves `left` ends up by one place.
+#[tactic(auto, using(crate::proofs::Shifting::shift_more, crate::proofs::Shifting::shift_done))]
 fn shift_ends(ends: &mut [u64], left: u64)
     ensures { ends.new ≡ shifted 1 left ends.old }
 {
@@ -98,6 +105,7 @@ fn shift_ends(ends: &mut [u64], left: u64)
 }
 
 // Moves the octets of `left` slots up by one slot.
+#[tactic(auto, using(crate::proofs::Shifting::shift_more, crate::proofs::Shifting::shift_done))]
 fn shift_slots(slots: &mut [u8], width: usize, left: u64)
     ensures { slots.new ≡ shifted width (width * left) slots.old }
 {

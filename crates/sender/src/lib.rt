@@ -1,4 +1,6 @@
 // The sender at B: which of two lent frames goes next.
+#![tactic(auto)]
+
 ghost use Rattle.std.specs.Prelude.{◌≡◌};
 ghost use Rattle.sender.specs.Sender.{send_refusal, to_send};
 
@@ -6,6 +8,7 @@ ghost use Rattle.sender.specs.Sender.{send_refusal, to_send};
 const FRAME_OCTETS: usize = 60;
 
 // 5 for a control frame under 60 octets, due or not; else 0.
+#[tactic(auto, using(ground::proofs::Tests::tests), unfolding(ground::specs::Pick::pick, crate::specs::Sender::send_refusal))]
 pub fn send_refusal(control: &[u8]) -> u8
     ensures { result ≡ send_refusal control.now }
 {
@@ -17,6 +20,7 @@ pub fn send_refusal(control: &[u8]) -> u8
 
 // The frame to go: the first 60 octets of the control frame when PFC is due, else the whole data frame, which may be empty; an
 // empty part where the control frame is refused with 5.
+#[tactic(auto, using(ground::proofs::Tests::tests), unfolding(ground::specs::Pick::pick, crate::specs::Sender::to_send))]
 pub fn to_send<'a>(control: &'a [u8], data: &'a [u8], due: bool) -> &'a [u8]
     ensures { result.now ≡ to_send control.now «data».now due }
 {

@@ -1,4 +1,6 @@
 // The recorder's settings: refused by document 01's numbers in its order, or accepted with the sums that watching needs.
+#![tactic(auto)]
+
 ghost use Rattle.std.specs.Prelude.{◌≡◌, false, ◌&&◌, [], ◌∷◌, ℕ, ◌^◌, ◌+◌, ◌<◌, ltb, get_or};
 ghost use Rattle.ground.specs.Eight.{eight};
 ghost use Rattle.ground.specs.First.{◌gives◌, first_of};
@@ -11,7 +13,7 @@ use units::{BitTimes, OctetTimes, Quanta};
 
 // Enabled priorities (bit n is priority n), the largest frame M in octets, generation, request path and data path in bit times, the
 // pause time T in quanta, the refresh I in octet times, the hysteresis and the eight rooms in octets. Any numbers may be given.
-#[derive(Drop)]
+#[derive(Clone, Copy)]
 pub struct Settings {
     pub enabled: u8,
     pub largest: u64,
@@ -24,7 +26,7 @@ pub struct Settings {
     pub rooms: [u64; 8],
 }
 
-#[derive(Drop)]
+#[derive(Clone, Copy)]
 pub enum Settling {
     Accepted(Kept),
     Refused(u8),
@@ -38,6 +40,7 @@ const LARGEST_REFRESH: u64 = 4_194_304;
 const LARGEST_ROOM: u64 = 1_073_741_824;
 
 // Whether a priority is enabled; a number above 7 is no priority.
+#[tactic(auto, unfolding(crate::specs::Settings::is_enabled, ground::specs::Pick::pick))]
 pub fn is_enabled(enabled: u8, priority: u8) -> bool
     ensures { result ≡ is_enabled enabled priority }
 {
@@ -97,12 +100,14 @@ fn both(one: [bool; 8], other: [bool; 8]) -> [bool; 8]
 }
 
 // Whether a mark of an enabled priority is set.
+#[tactic(auto, using(crate::proofs::Settled::some_of_both))]
 fn some_enabled(enabled: u8, marks: [bool; 8]) -> bool
     ensures { result ≡ some_enabled enabled (λ (n : ℕ). get_or marks n false) }
 {
     octets::some_of(both(octets::bits(enabled), marks))
 }
 
+#[tactic(auto, using(ground::proofs::Tests::tests), unfolding(ground::specs::Pick::pick))]
 fn refused_17(refresh: OctetTimes) -> bool
     ensures { result ≡ refused17 refresh.0 }
 {
@@ -112,6 +117,7 @@ fn refused_17(refresh: OctetTimes) -> bool
     LARGEST_REFRESH < refresh.0
 }
 
+#[tactic(auto, using(crate::proofs::Settled::some_marked), unfolding(ground::specs::Pick::pick))]
 fn refused_18(enabled: u8, rooms: [u64; 8], hysteresis: u64) -> bool
     ensures { result ≡ refused18 enabled rooms hysteresis }
 {
@@ -132,6 +138,7 @@ fn refused_16(pause: u16, refresh: OctetTimes, one_way: OctetTimes) -> bool
     false
 }
 
+#[tactic(auto, using(crate::proofs::Settled::some_marked))]
 fn refused_15(enabled: u8, rooms: [u64; 8], headroom: u64, largest: u64, hysteresis: u64) -> bool
     requires { headroom + largest + hysteresis < 2 ^ 64 }
     ensures { result ≡ some_room_below enabled rooms (headroom + largest + hysteresis) }
@@ -140,6 +147,7 @@ fn refused_15(enabled: u8, rooms: [u64; 8], headroom: u64, largest: u64, hystere
 }
 
 // 17, 18 and 16 in their order; 0 where none of them holds.
+#[tactic(auto, using(ground::proofs::Tests::tests), unfolding(ground::specs::Pick::pick, ground::specs::First::first_of))]
 fn bounds_refusal(is_17: bool, is_18: bool, is_16: bool) -> u8
     ensures { result ≡ first_of (is_17 gives 17 ∷ is_18 gives 18 ∷ is_16 gives 16 ∷ []) }
 {
@@ -156,6 +164,7 @@ fn bounds_refusal(is_17: bool, is_18: bool, is_16: bool) -> u8
 }
 
 // Refusals 17, 18, 16 and 15, of settings that 13 and 14 passed; 0 where none of them holds.
+#[tactic(auto, using(crate::proofs::Settled::calm, crate::proofs::Settled::own_passage, crate::proofs::Settled::own_headroom, crate::proofs::Settled::bounds_refused, crate::proofs::Settled::bounds_passed), unfolding(ground::specs::Pick::pick))]
 fn house_refusal(s: Settings, kept: Kept) -> u8
     requires { Carries s kept }
     ensures { result ≡ house_refusal s }
@@ -176,6 +185,7 @@ fn house_refusal(s: Settings, kept: Kept) -> u8
 
 // Accepted with G, W, P, D, the one-way time and the headroom, or refused: 13, 14, 17, 18, 16, 15 in this order. Rooms of priorities
 // that are not enabled are not looked at.
+#[tactic(auto, using(crate::proofs::SettingsLaws::promised, crate::proofs::Settled::carries, crate::proofs::Settled::settled_by_sum, crate::proofs::Settled::settled_by_house), unfolding(ground::specs::Pick::pick))]
 pub fn settle(s: Settings) -> Settling
     ensures { (settling_number_of result ≡ first_of (settings_order s)) × (result ≡ settling s) }
 {

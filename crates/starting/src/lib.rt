@@ -1,5 +1,7 @@
 // Kinds 02 and 04 of the bench: a data frame of A's or some other frame of B's starts. Arrays of any size are taken: what has no place in them
 // is not written.
+#![tactic(auto)]
+
 ghost use Rattle.std.specs.Prelude.{◌≡◌};
 ghost use Rattle.bench_meaning.specs.State.{data_octets};
 ghost use Rattle.bench_state.specs.Answered.{answered, Pushed};
@@ -18,6 +20,7 @@ fn data_octets(priority: u8, length: u16) -> [u8; 3]
 }
 
 // When the wire time of a frame of this length ends, if it starts now.
+#[tactic(auto, using(crate::proofs::Room::end_is))]
 fn data_end(clock: OctetTimes, length: u16) -> OctetTimes
     ensures { result ≡ data_end clock length }
 {
@@ -25,6 +28,7 @@ fn data_end(clock: OctetTimes, length: u16) -> OctetTimes
 }
 
 // The number of kind 02: 32, 33, 34, 35 and 36 in this order, else 0.
+#[tactic(auto, unfolding(crate::specs::Starting::data_number))]
 fn data_number(watch: Watch, bench: Bench, priority: u8, length: u16) -> u8
     ensures { result ≡ data_number watch bench priority length }
 {
@@ -40,6 +44,7 @@ fn data_number(watch: Watch, bench: Bench, priority: u8, length: u16) -> u8
 }
 
 // Kind 02: A starts a data frame.
+#[tactic(auto, using(bench_state::proofs::Either::refused_answered, bench_state::proofs::Either::accepted_answered, bench_state::proofs::Either::nothing_pushed, bench_state::proofs::Either::pushed, crate::proofs::Room::data_room))]
 pub fn start_data(
     watch: Watch,
     bench: Bench,
@@ -70,6 +75,7 @@ pub fn start_data(
 }
 
 // The number of kind 04: 33, 34 and 38 in this order, else 0.
+#[tactic(auto, unfolding(crate::specs::Starting::other_number))]
 fn other_number(watch: Watch, bench: Bench, length: u16) -> u8
     ensures { result ≡ other_number watch bench length }
 {
@@ -84,6 +90,7 @@ fn other_number(watch: Watch, bench: Bench, length: u16) -> u8
 }
 
 // Kind 04: B starts some other frame, which only holds the wire.
+#[tactic(auto, using(bench_state::proofs::Either::refused_answered, bench_state::proofs::Either::accepted_answered))]
 pub fn start_other(watch: Watch, bench: Bench, length: u16) -> Stepped
     ensures { result ≡ answered (other_number watch bench length) bench (other_holds bench length) }
 {

@@ -1,18 +1,20 @@
 // Bit times, octet times and pause quanta, and the named conversions between them. Nothing in the product adds a count of one kind
 // to a count of another but through these. Where a count is more than its type holds, the answer is the largest that it holds.
+#![tactic(auto)]
+
 ghost use Rattle.std.specs.Prelude.{◌≡◌, ◌+◌};
 ghost use Rattle.units.specs.Units.{bits_of_octets, bits_of_quanta, octets_of_bits, octets_of_quanta, quanta_of_bits, wire_time, within64};
 
 // A count of bit times.
-#[derive(Drop)]
+#[derive(Clone, Copy)]
 pub struct BitTimes(pub u64);
 
 // A count of octet times, 8 bit times each.
-#[derive(Drop)]
+#[derive(Clone, Copy)]
 pub struct OctetTimes(pub u64);
 
 // A count of pause quanta, 512 bit times each.
-#[derive(Drop)]
+#[derive(Clone, Copy)]
 pub struct Quanta(pub u64);
 
 // The octet times of a pause quantum.

@@ -1,6 +1,8 @@
 // Answers a vector file on standard input, one line a case, as docs/VECTORS.md says, by the libraries' public functions.
 // Of a longer input the first 1,048,576 octets are read, and the case that they cut short and all after it are not answered.
 // Where the input cannot be read nothing is answered, and where a line cannot be written nothing after it is; both are said on standard error.
+#![tactic(auto)]
+
 mod asked;
 mod fields;
 mod print;

@@ -1,4 +1,6 @@
 // A wait, walked octet time by octet time: only what time changes is carried, the clock and A's timers.
+#![tactic(auto)]
+
 ghost use Rattle.std.specs.Prelude.{◌≡◌, ◌+◌, ◌<◌};
 ghost use Rattle.walk.specs.Walk.{farthest, is_near, walked_on, walked_by};
 ghost use Rattle.walk.specs.Pacing.{head_at, paced_by, ticked};
@@ -11,7 +13,7 @@ use units::{OctetTimes, Quanta};
 const FARTHEST: u64 = 9_223_372_036_854_775_808;
 
 // What time changes.
-#[derive(Drop)]
+#[derive(Clone, Copy)]
 pub struct Walk {
     pub clock: OctetTimes,
     pub head: Head,
@@ -20,13 +22,14 @@ pub struct Walk {
 
 // What is carried from octet time to octet time: the clock and A's timers. Since when PFC is due is told by the refresh's own moment, and
 // need not be tried on the way.
-#[derive(Drop)]
+#[derive(Clone, Copy)]
 struct Pace {
     clock: OctetTimes,
     head: Head,
 }
 
 // The head once time has reached a moment: a quantum passes at each positive multiple of 64.
+#[tactic(auto, unfolding(crate::specs::Pacing::head_at, ground::specs::Pick::pick))]
 fn head_at(head: Head, clock: OctetTimes) -> Head
     ensures { result ≡ head_at head clock.0 }
 {
@@ -38,6 +41,7 @@ fn head_at(head: Head, clock: OctetTimes) -> Head
 }
 
 // One octet time passes.
+#[tactic(auto, unfolding(crate::specs::Pacing::ticked))]
 fn tick(pace: Pace) -> Pace
     requires { pace.clock.0 < farthest }
     ensures { result ≡ ticked pace }
@@ -52,6 +56,7 @@ fn tick(pace: Pace) -> Pace
 }
 
 // n octet times pass, one after the other.
+#[tactic(auto, using(crate::proofs::Walking::pace_more, crate::proofs::Walking::pace_none), unfolding(crate::specs::Pacing::paced_by))]
 fn paced(pace: Pace, n: u64) -> Pace
     requires { pace.clock.0 + n < farthest }
     ensures { result ≡ paced_by pace n }
@@ -67,6 +72,7 @@ fn paced(pace: Pace, n: u64) -> Pace
 }
 
 // n octet times pass; where the refresh fell due on the way, PFC is due since its own moment.
+#[tactic(auto, using(crate::proofs::Walking::walk_paced))]
 fn walked_on(walk: Walk, refresh: Moment, n: u64) -> Walk
     requires { walk.clock.0 + n < farthest }
     ensures { result ≡ walked_on walk refresh n }
@@ -85,6 +91,7 @@ fn walked_on(walk: Walk, refresh: Moment, n: u64) -> Walk
 }
 
 // Whether n octet times on from a moment are below the farthest that a walk goes.
+#[tactic(auto, using(crate::proofs::WalkLaws::near_left, crate::proofs::WalkLaws::none_near))]
 fn is_near(clock: OctetTimes, n: u64) -> bool
     ensures { result ≡ is_near clock.0 n }
 {
@@ -96,6 +103,7 @@ fn is_near(clock: OctetTimes, n: u64) -> bool
 }
 
 // n octet times pass, octet time by octet time; a walk that would go too far stays where it is.
+#[tactic(auto, unfolding(crate::specs::Walk::walked_by, ground::specs::Pick::pick))]
 pub fn walked(walk: Walk, refresh: Moment, n: u64) -> Walk
     ensures { result ≡ walked_by walk refresh n }
 {

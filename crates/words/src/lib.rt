@@ -1,5 +1,7 @@
 // The words of a command line: decimal numbers, rows of Table N-1 written as digits, the sum's inputs from ten numbers; and the blanks
 // that align a printed one.
+#![tactic(auto)]
+
 ghost use Rattle.std.specs.Prelude.{◌≡◌, Bool, ◌-◌, max};
 ghost use Rattle.ground.specs.First.{first_of};
 ghost use Rattle.interface_rows.specs.Stack.{stack_number_of};
@@ -10,7 +12,7 @@ use interface_rows::Stacked;
 use units::BitTimes;
 
 // What a word says.
-#[derive(Drop)]
+#[derive(Clone, Copy)]
 pub enum Word {
     Number(u64),
     NotANumber,
@@ -32,6 +34,7 @@ fn wide(octet: u8) -> u64
 }
 
 // A word of decimal digits as a number, up to what 64 bits hold. Any octets are answered.
+#[tactic(auto, using(crate::proofs::Numbers::no_number, crate::proofs::Reading::Reading, crate::proofs::Reading::start, crate::proofs::Reading::too_low, crate::proofs::Reading::too_high, crate::proofs::Reading::too_large, crate::proofs::Reading::next, crate::proofs::Reading::ends, crate::proofs::Reading::some, crate::proofs::Reading::none))]
 pub fn number_of(word: &[u8]) -> Word
     ensures { (word_number_of result ≡ 0) × (result ≡ number_of word.now) }
 {
@@ -58,6 +61,7 @@ pub fn number_of(word: &[u8]) -> Word
 }
 
 // The word names rows of Table N-1: it begins with `rows:`.
+#[tactic(auto, using(ground::proofs::Tests::tests), unfolding(ground::specs::Pick::pick, crate::specs::Words::is_rows))]
 pub fn is_rows(word: &[u8]) -> bool
     ensures { result ≡ is_rows word.now }
 {
@@ -80,6 +84,7 @@ pub fn is_rows(word: &[u8]) -> bool
 }
 
 // The delays of the stack whose rows the digits after `rows:` name, counted from 1. A shorter word names no stack.
+#[tactic(auto, using(ground::proofs::Tests::tests, crate::proofs::Numbers::promised, crate::proofs::Reading::from_prefix), unfolding(ground::specs::Pick::pick, crate::specs::Words::rows_answer))]
 pub fn delays_of_rows(word: &[u8]) -> Stacked
     ensures { (stack_number_of result ≡ first_of (rows_order word.now)) × (result ≡ rows_answer word.now)
         × (word.now ≡ word.now) }
