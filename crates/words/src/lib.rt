@@ -87,7 +87,7 @@ pub fn is_rows(word: &[u8]) -> bool
 #[tactic(auto, using(ground::proofs::Tests::tests, crate::proofs::Numbers::promised, crate::proofs::Reading::from_prefix), unfolding(ground::specs::Pick::pick, crate::specs::Words::rows_answer))]
 pub fn delays_of_rows(word: &[u8]) -> Stacked
     ensures { (stack_number_of result ≡ first_of (rows_order word.now)) × (result ≡ rows_answer word.now)
-        × (word.now ≡ word.now) }
+        × (word.exit.now ≡ word.now) }
 {
     if word.len() < PREFIX {
         return Stacked::Unknown;
