@@ -1,12 +1,9 @@
 -- What `keep` answers says whether 14 holds. Assumes nothing.
-use Rattle.std.proofs.Common.{◌∙◌, sym, ap, arith}
+use Rattle.std.proofs.Common.{◌∙◌, ap}
 use Rattle.ground.specs.Pick.{pick}
 use Rattle.ground.specs.First.{first_of}
 use Rattle.ground.proofs.Pick.{pick_yes, pick_no}
-use Rattle.room_to_keep.proofs.Room.{IsRoom, is_room, is_14}
-use Rattle.headroom_sum.specs.Sum.{request_of, data_of}
-use Rattle.headroom_sum.specs.Stages.{Pathed}
-use Rattle.headroom_sum.specs.declared.Inputs.{Inputs}
+use Rattle.room_to_keep.proofs.Room.{is_room, is_14}
 use Rattle.headroom_sum.specs.declared.Summed.{Summed}
 use Rattle.headroom_sum.proofs.Exactly.{answered_by}
 use Rattle.headroom_sum.proofs.Order.{over_halt, within_halt, items_made}
