@@ -191,7 +191,7 @@ fn station_over(
 }
 
 // 13, then 14 by a station delay or by a halt that is above a path's limit by itself; then the paths fit and are tried whole.
-#[tactic(auto, using(crate::proofs::Order::stations_within), unfolding(ground::specs::First::first_of, ground::specs::Pick::pick))]
+#[tactic(auto, using(crate::proofs::Order::stages))]
 fn after_link(inputs: Inputs, link: BitTimes, halting: BitTimes) -> Summed
     requires { Linked inputs link.0 halting.0 }
     ensures { result ≡ summed inputs }

@@ -1,26 +1,10 @@
--- Each test is the definition's, and with the delays and the halt bounded the paths fit. Assumes nothing.
+-- With the station delays and the halt bounded the request path's parts are within what `request_bits` requires. Assumes nothing.
 use Rattle.std.proofs.Common.{sym, ◌∙◌}
-use Rattle.ground.specs.Pick.{pick}
-use Rattle.ground.specs.First.{first_of}
-use Rattle.ground.proofs.Pick.{pick_yes, pick_no}
-use Rattle.headroom_sum.proofs.Exactly.{answered_by}
-use Rattle.headroom_sum.proofs.Order.{halt_alone}
+use Rattle.headroom_sum.proofs.Order.{past_stations, stations_within}
 use Rattle.headroom_sum.proofs.after_link.Goals as goal
 
-pub returns-then-outside_m : goal.returns-then-outside_m
-unfolding pick first_of
-returns-then-outside_m c = answered_by _ (c.requires.left ∙ pick_yes _ _ (sym c.outside_m.ensures ∙ c.if-outside_m.true))
-
-pub returns-then-station_over : goal.returns-then-station_over
-unfolding pick first_of
-returns-then-station_over c =
+pub request_bits-request-requires : goal.request_bits-request-requires
+request_bits-request-requires c =
     let no13 = sym c.outside_m.ensures ∙ c.if-outside_m.false in
-    let over = pick_yes _ _ (sym c.station_over.ensures ∙ c.if-station_over.true) in
-    answered_by _ (c.requires.left ∙ (pick_no _ _ no13 ∙ pick_yes _ _ over))
-
-pub returns-then-inputs : goal.returns-then-inputs
-unfolding pick first_of
-returns-then-inputs c =
-    let no13 = sym c.outside_m.ensures ∙ c.if-outside_m.false in
-    let over = pick_no _ _ (sym c.station_over.ensures ∙ c.if-station_over.false) ∙ halt_alone c.args.inputs c.if-inputs.true in
-    answered_by _ (c.requires.left ∙ (pick_no _ _ no13 ∙ pick_yes _ _ over))
+    let f = stations_within (past_stations c.requires no13 (sym c.station_over.ensures ∙ c.if-station_over.false)) in
+    (f.b_transmit_fits, c.requires.link_most, f.a_receive_fits, c.if-inputs.false)

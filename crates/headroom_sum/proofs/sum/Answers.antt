@@ -1,5 +1,5 @@
 -- 10, 11 and 12 are tried, and the link's bits and the limit's handed on. Assumes nothing.
-use Rattle.std.proofs.Common.{refl, ◌∙◌, sym, ne_eqb}
+use Rattle.std.proofs.Common.{refl, ◌∙◌, sym, ne_eqb, arith}
 use Rattle.ground.specs.Pick.{pick}
 use Rattle.ground.specs.First.{first_of}
 use Rattle.ground.proofs.Pick.{pick_yes, pick_no}
@@ -27,7 +27,8 @@ link_bits-link-requires c =
     let no10 = (is_limit _ _ c.in-Limit.ensures.1).no10 in
     let tried = in_order i refl c.outside_percentage-is_outside.ensures c.cable_refusal-number.ensures in
     let cable = cable_passed i no10 (sym tried ∙ c.if-number-ne0.false) in
-    (cable.metres, rate_small _ no10, cable.least, cable.most)
+    let rate = rate_small _ no10 in
+    (omega arith, omega arith, omega arith, omega arith)
 
 pub after_link-requires : goal.after_link-requires
 after_link-requires c =
