@@ -30,7 +30,6 @@ fn pfc_number(bench: Bench) -> u8
 }
 
 // The PFC frame as B sends it with the marks as they stand.
-#[tactic(auto, unfolding(frame_build::specs::Build::buffer_for, frame_build::specs::Build::build_verdict, frame_build::specs::Build::built_by, ground::specs::First::first_of, frame_build::specs::Build::order_by, ground::specs::Pick::pick))]
 fn pfc_octets(watch: Watch, bench: Bench) -> [u8; 60]
     ensures { result ≡ pfc_now watch bench.marks }
 {

@@ -113,7 +113,7 @@ fn settled(input: &[u8]) -> Report
 }
 
 // The run over a whole input of at most 65,536 octets; one that is longer is refused, whatever stands in it.
-#[tactic(auto, using(crate::proofs::Running::whole_settings, crate::proofs::Running::run_refused, crate::proofs::Running::run_settled), unfolding(ground::specs::Pick::pick))]
+#[tactic(auto, using(crate::proofs::Running::whole_settings, crate::proofs::Running::run_refused, crate::proofs::Running::run_settled))]
 pub fn run(input: &[u8]) -> Report
     ensures { result ≡ run_of input.now }
 {

@@ -31,7 +31,6 @@ pub fn oldest(ends: &[u64], count: u64) -> Moment
 }
 
 // How many places so many slots of a width take, and no more than `most`: the product need not fit a word.
-#[tactic(auto, using(crate::proofs::Product::all_places, crate::proofs::Product::some_places, crate::proofs::Product::fit), unfolding(ground::specs::Pick::pick))]
 fn places(width: usize, count: u64, most: usize) -> usize
     ensures { result ≡ min (width * count) most }
 {

@@ -164,7 +164,7 @@ fn bounds_refusal(is_17: bool, is_18: bool, is_16: bool) -> u8
 }
 
 // Refusals 17, 18, 16 and 15, of settings that 13 and 14 passed; 0 where none of them holds.
-#[tactic(auto, using(crate::proofs::Settled::own_passage, crate::proofs::Settled::own_headroom, crate::proofs::Settled::bounds_refused, crate::proofs::Settled::bounds_passed), unfolding(ground::specs::Pick::pick))]
+#[tactic(auto, using(crate::proofs::Settled::bounds_refused, crate::proofs::Settled::bounds_passed), unfolding(ground::specs::Pick::pick))]
 fn house_refusal(s: Settings, kept: Kept) -> u8
     requires { Carries s kept }
     ensures { result ≡ house_refusal s }
@@ -185,7 +185,7 @@ fn house_refusal(s: Settings, kept: Kept) -> u8
 
 // Accepted with G, W, P, D, the one-way time and the headroom, or refused: 13, 14, 17, 18, 16, 15 in this order. Rooms of priorities
 // that are not enabled are not looked at.
-#[tactic(auto, using(crate::proofs::SettingsLaws::promised, crate::proofs::Settled::carries, crate::proofs::Settled::settled_by_sum, crate::proofs::Settled::settled_by_house), unfolding(ground::specs::Pick::pick))]
+#[tactic(auto, using(crate::proofs::SettingsLaws::promised, crate::proofs::Settled::carries, crate::proofs::Settled::settled_by_sum))]
 pub fn settle(s: Settings) -> Settling
     ensures { (settling_number_of result ≡ first_of (settings_order s)) × (result ≡ settling s) }
 {

@@ -99,7 +99,7 @@ fn whole_or_none(number: u8, before: Bench, after: Bench) -> Stepped
 }
 
 // n octet times pass: 41 and 40 in this order, else the state where the walk ends.
-#[tactic(auto, using(bench_state::proofs::Either::refused_answered, crate::proofs::Far::far_first), unfolding(ground::specs::Pick::pick, crate::specs::Waiting::waited_by))]
+#[tactic(auto, using(bench_state::proofs::Either::refused_answered, crate::proofs::Far::far_first), unfolding(crate::specs::Waiting::waited_by))]
 pub fn wait_for(watch: Watch, bench: Bench, ends: &[u64], pfc_ends: &[u64], n: u16) -> Stepped
     ensures { result ≡ waited_by watch bench ends.now pfc_ends.now n }
 {

@@ -56,7 +56,7 @@ fn tick(pace: Pace) -> Pace
 }
 
 // n octet times pass, one after the other.
-#[tactic(auto, using(crate::proofs::Walking::pace_more, crate::proofs::Walking::pace_none), unfolding(ground::specs::Pick::pick, crate::specs::Pacing::paced_by))]
+#[tactic(auto, using(crate::proofs::Walking::pace_more), unfolding(crate::specs::Pacing::paced_by))]
 fn paced(pace: Pace, n: u64) -> Pace
     requires { pace.clock.0 + n < farthest }
     ensures { result ≡ paced_by pace n }
