@@ -1,2 +1,0 @@
--- The laws and the proofs of this crate.
-pub mod Rest
