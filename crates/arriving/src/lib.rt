@@ -18,7 +18,7 @@ const DATA_WIDTH: usize = 3;
 const PFC_WIDTH: usize = 60;
 
 // The recorder's marks once the data frame in the first slot arrived.
-#[tactic(auto, unfolding(crate::specs::Arriving::brought_by, recorder::specs::Watching::arrived_at))]
+#[tactic(auto, unfolding(ground::specs::Pick::pick, crate::specs::Arriving::brought_by, recorder::specs::Watching::arrived_at))]
 fn brought(watch: Watch, bench: Bench, numbers: &mut [[u64; 4]; 8], slots: &[u8]) -> Marks
     ensures { recorder_of numbers.new result ≡ brought_by watch bench numbers.old slots.now }
 {
@@ -37,7 +37,7 @@ fn brought(watch: Watch, bench: Bench, numbers: &mut [[u64; 4]; 8], slots: &[u8]
 }
 
 // Kind 03: the oldest data frame reaches B.
-#[tactic(auto, using(bench_state::proofs::Either::when_accepted, bench_state::proofs::Either::when_refused, bench_state::proofs::Either::refused_answered, bench_state::proofs::Either::accepted_answered, bench_state::proofs::Either::nothing_left, bench_state::proofs::Either::left, bench_state::proofs::Ended::ended_some))]
+#[tactic(auto, using(bench_state::proofs::Either::when_accepted, bench_state::proofs::Either::when_refused, bench_state::proofs::Either::refused_answered, bench_state::proofs::Either::accepted_answered, bench_state::proofs::Either::nothing_left, bench_state::proofs::Either::left, bench_state::proofs::Ended::ended_some), unfolding(ground::specs::Pick::pick))]
 pub fn arrive(
     watch: Watch,
     bench: Bench,
@@ -69,7 +69,7 @@ pub fn arrive(
 }
 
 // Kind 07: B's disk takes octets.
-#[tactic(auto, unfolding(crate::specs::Arriving::taking_number, crate::specs::Arriving::taking_by, recorder::specs::Watching::taking_refusal, recorder::specs::Watching::taking_leaves))]
+#[tactic(auto, unfolding(ground::specs::Pick::pick, crate::specs::Arriving::taking_number, crate::specs::Arriving::taking_by, recorder::specs::Watching::taking_refusal, recorder::specs::Watching::taking_leaves))]
 pub fn take_octets(
     watch: Watch,
     bench: Bench,

@@ -16,7 +16,7 @@ const MOST_INPUT: usize = 65_536;
 const SETTINGS_LENGTH: usize = 58;
 
 // The eight rooms, from priority 0 up.
-#[tactic(auto, using(ground::proofs::Eight::eight_is))]
+#[tactic(auto, using(ground::proofs::Eight::eight_is), unfolding(ground::specs::Pick::pick))]
 fn rooms_in(input: &[u8]) -> [u64; 8]
     ensures { result ≡ (settings_in input.now).rooms }
 {
@@ -96,7 +96,7 @@ fn input_refusal(kind: u8, size: usize) -> u8
 }
 
 // Settings of 58 octets or more, and what follows them.
-#[tactic(auto, using(crate::proofs::Running::settled_refused, crate::proofs::Running::settled_accepted, ground::proofs::Parts::take_rest))]
+#[tactic(auto, using(crate::proofs::Running::settled_refused, crate::proofs::Running::settled_accepted, ground::proofs::Parts::take_rest), unfolding(ground::specs::Pick::pick))]
 fn settled(input: &[u8]) -> Report
     requires { 58 ≤ length input.now }
     ensures { result ≡ settled_of input.now }
@@ -113,7 +113,7 @@ fn settled(input: &[u8]) -> Report
 }
 
 // The run over a whole input of at most 65,536 octets; one that is longer is refused, whatever stands in it.
-#[tactic(auto, using(crate::proofs::Running::whole_settings, crate::proofs::Running::run_refused, crate::proofs::Running::run_settled))]
+#[tactic(auto, using(crate::proofs::Running::whole_settings, crate::proofs::Running::run_refused, crate::proofs::Running::run_settled), unfolding(ground::specs::Pick::pick))]
 pub fn run(input: &[u8]) -> Report
     ensures { result ≡ run_of input.now }
 {

@@ -35,7 +35,7 @@ pub struct Stepped {
 }
 
 // The outcome of a record with this number; 0 stands for none.
-#[tactic(auto, using(crate::proofs::Either::outcome_none, crate::proofs::Either::outcome_some))]
+#[tactic(auto, using(crate::proofs::Either::outcome_none, crate::proofs::Either::outcome_some), unfolding(ground::specs::Pick::pick))]
 pub fn outcome_of(number: u8) -> Outcome
     ensures { (number_of result ≡ number) × (result ≡ outcome_of number) }
 {
@@ -46,7 +46,7 @@ pub fn outcome_of(number: u8) -> Outcome
 }
 
 // Document 01's number of an outcome, or 0.
-#[tactic(auto, unfolding(crate::specs::Answered::number_of))]
+#[tactic(auto, unfolding(ground::specs::Pick::pick, crate::specs::Answered::number_of))]
 pub fn number_of(outcome: Outcome) -> u8
     ensures { result ≡ number_of outcome }
 {
@@ -87,7 +87,7 @@ pub fn is_busy(direction: Direction, clock: OctetTimes) -> bool
 }
 
 // 37 of a direction: no frame is under way, or the oldest one's wire time has not ended; else 0.
-#[tactic(auto, unfolding(crate::specs::Answered::ended_in))]
+#[tactic(auto, unfolding(ground::specs::Pick::pick, crate::specs::Answered::ended_in))]
 pub fn ended_number(ends: &[u64], direction: Direction, clock: OctetTimes) -> u8
     ensures { result ≡ ended_in direction.count ends.now clock.0 }
 {

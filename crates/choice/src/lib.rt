@@ -18,7 +18,7 @@ pub enum Choice {
 
 // The highest class whose front is present and not paused, or none. fronts has the front of each class queue, a priority 0 to 7 or
 // 8 for an empty queue; map the class of each priority; paused the paused mark of each priority. Refused by number: 22, 20, 21.
-#[tactic(auto, using(crate::proofs::Refusals::choice_by, crate::proofs::Refusals::number_by, crate::proofs::Highest::chosen_free, crate::proofs::Highest::chosen_refused))]
+
 pub fn choose(fronts: [u8; 8], map: [u8; 8], paused: [bool; 8]) -> Choice
     ensures { (number_of result ≡ first_of (choosing_order fronts map)) × (result ≡ choice fronts map paused) }
 {
@@ -84,7 +84,7 @@ fn is_misplaced(fronts: [u8; 8], map: [u8; 8], class: usize) -> bool
 }
 
 // Whether that holds of some class.
-#[tactic(auto, using(ground::proofs::Eight::eight_is))]
+#[tactic(auto, using(ground::proofs::Eight::eight_is), unfolding(ground::specs::Pick::pick))]
 fn some_misplaced(fronts: [u8; 8], map: [u8; 8]) -> bool
     ensures { result ≡ some (eight (is_misplaced fronts map)) }
 {
@@ -110,7 +110,7 @@ fn may_go(fronts: [u8; 8], paused: [bool; 8], class: usize) -> bool
 }
 
 // The highest class that may go, or none.
-#[tactic(auto, using(crate::proofs::Highest::highest_below, crate::proofs::Highest::highest_here, crate::proofs::Highest::highest_none))]
+#[tactic(auto, using(crate::proofs::Highest::highest_below, crate::proofs::Highest::highest_here, crate::proofs::Highest::highest_none), unfolding(ground::specs::Pick::pick))]
 fn highest_free(fronts: [u8; 8], paused: [bool; 8]) -> Choice
     ensures { result ≡ highest (may_go fronts paused) 8 }
 {

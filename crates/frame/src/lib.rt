@@ -120,7 +120,7 @@ fn request_in(frame: &[u8]) -> Request
     }
 }
 
-#[tactic(auto, unfolding(crate::specs::Read::is_control))]
+#[tactic(auto, unfolding(ground::specs::Pick::pick, crate::specs::Read::is_control))]
 fn is_control(frame: &[u8]) -> bool
     ensures { result ≡ is_control frame.now }
 {
@@ -160,7 +160,7 @@ fn taken(control: bool, frame: &[u8]) -> Verdict
 
 // What a frame is to a station with this own address, where the largest frame is M: document 01's order of refusals 13, 1, 2, then
 // data, then 3, 4, else the request. The first octet of the enable vector and octets 34 on are not looked at.
-#[tactic(auto, using(crate::proofs::Reading::size_number, crate::proofs::Reading::control_number, crate::proofs::Reading::taken_by, crate::proofs::Reading::read_by, crate::proofs::Reading::verdict_refused, crate::proofs::Reading::verdict_taken))]
+
 pub fn read(frame: &[u8], largest: u64, own: [u8; 6]) -> Verdict
     ensures { (number_of result ≡ first_of (reading_order frame.now largest own)) × (result ≡ verdict frame.now largest own) }
 {
@@ -191,7 +191,7 @@ fn part_start(found: Verdict, size: usize) -> usize
 }
 
 // The part of a data frame from octet 12 on, the caller's own octets; of any other frame an empty part.
-#[tactic(auto, using(ground::proofs::Parts::take_rest, crate::proofs::Reading::part_from, crate::proofs::Reading::start_within))]
+#[tactic(auto, using(ground::proofs::Parts::take_rest, crate::proofs::Reading::part_from, crate::proofs::Reading::start_within), unfolding(ground::specs::Pick::pick))]
 pub fn part(frame: &[u8], largest: u64, own: [u8; 6]) -> &[u8]
     ensures { result.now ≡ part_of frame.now largest own }
 {

@@ -32,7 +32,7 @@ impl Head {
 
     // A request is taken: it replaces the timers that it names and PFC is enabled for, and counts as an indication, whatever it
     // names.
-    #[tactic(auto, using(crate::proofs::Heads::heads_equal, crate::proofs::Marks::replaced_all_lem))]
+    #[tactic(auto, using(crate::proofs::Heads::heads_equal, crate::proofs::Marks::replaced_all_lem), unfolding(ground::specs::Pick::pick))]
     pub fn taken(self, e: u8, times: [u16; 8]) -> Head
         ensures { result ≡ after_request self e times }
     {
@@ -46,7 +46,7 @@ impl Head {
     }
 
     // A count of quanta passes, any count: each timer is lowered by it, not below zero.
-    #[tactic(auto, using(crate::proofs::Heads::heads_equal))]
+    #[tactic(auto, using(crate::proofs::Heads::heads_equal), unfolding(ground::specs::Pick::pick))]
     pub fn passed(self, count: Quanta) -> Head
         ensures { result ≡ after_quanta self count.0 }
     {
@@ -60,7 +60,7 @@ impl Head {
     }
 
     // Whether a priority is paused. A priority above 7 has no timer and is not.
-    #[tactic(auto, using(crate::proofs::Timers::not_paused_past))]
+    #[tactic(auto, using(crate::proofs::Timers::not_paused_past), unfolding(ground::specs::Pick::pick))]
     pub fn is_paused(self, priority: u8) -> bool
         ensures { result ≡ is_paused self priority }
     {
@@ -114,7 +114,7 @@ fn replaced_at(e: [bool; 8], enabled: [bool; 8], times: [u16; 8], timers: [u16; 
 }
 
 // The timers after a request.
-#[tactic(auto, using(ground::proofs::Eight::eight_is))]
+#[tactic(auto, using(ground::proofs::Eight::eight_is), unfolding(ground::specs::Pick::pick))]
 fn replaced(e: [bool; 8], enabled: [bool; 8], times: [u16; 8], timers: [u16; 8]) -> [u16; 8]
     ensures { result ≡ replaced_all e enabled times timers }
 {
@@ -153,7 +153,7 @@ fn lowered_at(timers: [u16; 8], n: usize, quanta: u16) -> u16
 }
 
 // The timers after a count of quanta, in one stroke: a comparison and a subtraction for each.
-#[tactic(auto, using(crate::proofs::Lowered::lowered_by_least, ground::proofs::Eight::eight_is))]
+#[tactic(auto, using(crate::proofs::Lowered::lowered_by_least, ground::proofs::Eight::eight_is), unfolding(ground::specs::Pick::pick))]
 fn lowered_by(timers: [u16; 8], count: u64) -> [u16; 8]
     ensures { result ≡ lowered timers count }
 {

@@ -31,7 +31,7 @@ impl Marks {
     }
 }
 
-#[tactic(auto, using(crate::proofs::MarkLaws::differ_from_false), unfolding(crate::specs::Marks::differ))]
+#[tactic(auto, using(crate::proofs::MarkLaws::differ_from_false), unfolding(ground::specs::Pick::pick, crate::specs::Marks::differ))]
 fn differ(a: bool, b: bool) -> bool
     ensures { result ≡ differ a b }
 {
@@ -39,7 +39,7 @@ fn differ(a: bool, b: bool) -> bool
 }
 
 // The marks with this one at a priority: a PFC frame becomes due where it changed. A number above 7 has no mark and changes nothing.
-#[tactic(auto, using(crate::proofs::MarkLaws::mark_put, crate::proofs::MarkLaws::no_mark_put))]
+#[tactic(auto, using(crate::proofs::MarkLaws::mark_put, crate::proofs::MarkLaws::no_mark_put), unfolding(ground::specs::Pick::pick))]
 pub fn with_mark(marks: Marks, priority: u8, wanted: bool, clock: OctetTimes) -> Marks
     ensures { result ≡ with_mark marks priority wanted clock.0 }
 {
@@ -75,7 +75,7 @@ pub fn refresh_of(marks: Marks, refresh: OctetTimes) -> Moment
 }
 
 // The marks once a PFC frame started: none is due any more, and one more was sent.
-#[tactic(auto, unfolding(crate::specs::Marks::started_at))]
+#[tactic(auto, unfolding(ground::specs::Pick::pick, crate::specs::Marks::started_at))]
 pub fn started(marks: Marks, clock: OctetTimes) -> Marks
     ensures { result ≡ started_at marks clock.0 }
 {
@@ -89,7 +89,7 @@ pub fn started(marks: Marks, clock: OctetTimes) -> Marks
 }
 
 // The marks with another due moment.
-#[tactic(auto, unfolding(crate::specs::Marks::with_due))]
+#[tactic(auto, unfolding(ground::specs::Pick::pick, crate::specs::Marks::with_due))]
 pub fn with_due(marks: Marks, due: Moment) -> Marks
     ensures { result ≡ with_due marks due }
 {
@@ -119,7 +119,7 @@ fn time_for(marks: Marks, enabled: u8, pause: u16, n: usize) -> u16
 }
 
 // The eight times of the PFC frame as the marks stand: the pause time T where wanted and 0 elsewhere.
-#[tactic(auto, using(ground::proofs::Eight::eight_is), unfolding(crate::specs::Marks::times_for))]
+#[tactic(auto, using(ground::proofs::Eight::eight_is), unfolding(ground::specs::Pick::pick, crate::specs::Marks::times_for))]
 pub fn times_for(marks: Marks, enabled: u8, pause: u16) -> [u16; 8]
     ensures { result ≡ times_for enabled pause marks }
 {

@@ -14,7 +14,7 @@ pub enum Moment {
 }
 
 // Whether there is no moment.
-#[tactic(auto, unfolding(crate::specs::Moments::is_never))]
+#[tactic(auto, unfolding(ground::specs::Pick::pick, crate::specs::Moments::is_never))]
 pub fn is_never(moment: Moment) -> bool
     ensures { result ≡ is_never moment }
 {
@@ -25,7 +25,7 @@ pub fn is_never(moment: Moment) -> bool
 }
 
 // Whether a moment is still ahead; where there is none, it is.
-#[tactic(auto, unfolding(crate::specs::Moments::is_ahead))]
+#[tactic(auto, unfolding(ground::specs::Pick::pick, crate::specs::Moments::is_ahead))]
 pub fn is_ahead(moment: Moment, clock: OctetTimes) -> bool
     ensures { result ≡ is_ahead moment clock.0 }
 {
@@ -36,7 +36,7 @@ pub fn is_ahead(moment: Moment, clock: OctetTimes) -> bool
 }
 
 // Whether the clock is past a moment, if there is one, by more than a bound.
-#[tactic(auto, using(crate::proofs::Bounds::past_since, crate::proofs::Bounds::past_not_yet), unfolding(crate::specs::Moments::past_due))]
+#[tactic(auto, using(crate::proofs::Bounds::past_since, crate::proofs::Bounds::past_not_yet), unfolding(ground::specs::Pick::pick, crate::specs::Moments::past_due))]
 pub fn past(moment: Moment, bound: OctetTimes, clock: OctetTimes) -> bool
     ensures { result ≡ past_due moment bound.0 clock.0 }
 {
@@ -53,7 +53,7 @@ pub fn past(moment: Moment, bound: OctetTimes, clock: OctetTimes) -> bool
 }
 
 // Due from the clock on where a mark changed, unless PFC is due already: its first moment stands.
-#[tactic(auto, using(crate::proofs::DueLaws::due_stands), unfolding(crate::specs::Moments::due_on))]
+#[tactic(auto, using(crate::proofs::DueLaws::due_stands), unfolding(ground::specs::Pick::pick, crate::specs::Moments::due_on))]
 pub fn due_on(changed: bool, clock: OctetTimes, due: Moment) -> Moment
     ensures { result ≡ due_on changed clock.0 due }
 {
@@ -70,7 +70,7 @@ pub fn due_on(changed: bool, clock: OctetTimes, due: Moment) -> Moment
 }
 
 // The moment from which the refresh has passed since the last PFC frame started; none where no PFC frame has started.
-#[tactic(auto, unfolding(crate::specs::Moments::refresh_from))]
+#[tactic(auto, unfolding(ground::specs::Pick::pick, crate::specs::Moments::refresh_from))]
 pub fn refresh_from(last: Moment, refresh: OctetTimes) -> Moment
     ensures { result ≡ refresh_from last refresh.0 }
 {
@@ -81,7 +81,7 @@ pub fn refresh_from(last: Moment, refresh: OctetTimes) -> Moment
 }
 
 // Since when a PFC frame is due once the clock stands here, where the refresh makes one due from a moment on.
-#[tactic(auto, using(crate::proofs::DueLaws::due_at_refresh, crate::proofs::DueLaws::not_due_before), unfolding(crate::specs::Moments::due_by))]
+#[tactic(auto, using(crate::proofs::DueLaws::due_at_refresh, crate::proofs::DueLaws::not_due_before), unfolding(ground::specs::Pick::pick, crate::specs::Moments::due_by))]
 pub fn due_by(refresh: Moment, clock: OctetTimes, due: Moment) -> Moment
     ensures { result ≡ due_by refresh clock.0 due }
 {

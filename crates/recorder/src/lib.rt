@@ -20,7 +20,7 @@ pub struct Watch {
 }
 
 // The room's size and marks of a priority; a number above 7 has no room.
-#[tactic(auto, unfolding(crate::specs::Watching::limits_of))]
+#[tactic(auto, unfolding(ground::specs::Pick::pick, crate::specs::Watching::limits_of))]
 pub fn limits_of(watch: Watch, priority: u8) -> Limits
     ensures { result ≡ limits_of watch priority }
 {
@@ -76,7 +76,7 @@ pub struct Taking {
 }
 
 // Octets of a priority are taken from a room with these limits: 32, 43 and 42 in this order, else they leave it and the marks are tried.
-#[tactic(auto, using(crate::proofs::Marking::room_put, crate::proofs::Marking::taking_32, crate::proofs::Marking::taking_43, crate::proofs::Marking::taking_42, crate::proofs::Marking::taking_0), unfolding(crate::specs::Watching::taken_with))]
+#[tactic(auto, using(crate::proofs::Marking::room_put, crate::proofs::Marking::taking_32, crate::proofs::Marking::taking_43, crate::proofs::Marking::taking_42, crate::proofs::Marking::taking_0), unfolding(ground::specs::Pick::pick, crate::specs::Watching::taken_with))]
 pub fn taken(
     numbers: &mut [[u64; 4]; 8],
     marks: Marks,

@@ -145,7 +145,7 @@ fn wanted_after(limits: Limits, free: u64, before: bool) -> bool
 }
 
 // The room after a frame of this length arrived: held where it fits, else dropped and its octets counted; then the marks are tried.
-#[tactic(auto, unfolding(crate::specs::Room::arrived_in))]
+#[tactic(auto, unfolding(ground::specs::Pick::pick, crate::specs::Room::arrived_in))]
 pub fn arrived(room: Room, limits: Limits, length: u64) -> Room
     ensures { result ≡ arrived_in limits room length }
 {
@@ -161,7 +161,7 @@ pub fn arrived(room: Room, limits: Limits, length: u64) -> Room
 }
 
 // The room after octets were taken, at most those that are held; then the marks are tried.
-#[tactic(auto, using(crate::proofs::Made::taken_made))]
+#[tactic(auto, using(crate::proofs::Made::taken_made), unfolding(ground::specs::Pick::pick))]
 pub fn taken(room: Room, limits: Limits, octets: u64) -> Room
     ensures { result ≡ taken_from limits room octets }
 {

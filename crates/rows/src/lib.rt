@@ -31,7 +31,7 @@ pub fn oldest(ends: &[u64], count: u64) -> Moment
 }
 
 // How many places so many slots of a width take, and no more than `most`: the product need not fit a word.
-#[tactic(auto, using(crate::proofs::Product::all_places, crate::proofs::Product::some_places, crate::proofs::Product::fit))]
+#[tactic(auto, using(crate::proofs::Product::all_places, crate::proofs::Product::some_places, crate::proofs::Product::fit), unfolding(ground::specs::Pick::pick))]
 fn places(width: usize, count: u64, most: usize) -> usize
     ensures { result ≡ min (width * count) most }
 {
@@ -57,7 +57,7 @@ fn write_end(ends: &mut [u64], count: u64, end: u64)
 }
 
 // Writes octets at a place, if they fit there.
-#[tactic(auto, using(crate::proofs::Writing::written_out, crate::proofs::Writing::written_part))]
+#[tactic(auto, using(crate::proofs::Writing::written_out, crate::proofs::Writing::written_part), unfolding(ground::specs::Pick::pick))]
 fn write_at(slots: &mut [u8], place: usize, octets: &[u8])
     ensures { slots.new ≡ written place octets.now slots.old }
 {
@@ -71,7 +71,7 @@ fn write_at(slots: &mut [u8], place: usize, octets: &[u8])
 }
 
 // Puts a frame behind `count` others: its end at that place of the ends, its octets, as many as a slot has, in that slot.
-#[tactic(auto, using(crate::proofs::Writing::written_within))]
+#[tactic(auto, using(crate::proofs::Writing::written_within), unfolding(ground::specs::Pick::pick))]
 pub fn push(ends: &mut [u64], slots: &mut [u8], count: u64, end: OctetTimes, octets: &[u8])
     ensures { (ends.new ≡ set ends.old count end.0)
         × (slots.new ≡ written (length octets.now * count) octets.now slots.old) }
@@ -92,7 +92,7 @@ fn movable(size: usize, width: usize, left: u64) -> usize
 }
 
 // Moves `left` ends up by one place.
-#[tactic(auto, using(crate::proofs::Shifting::shift_more, crate::proofs::Shifting::shift_done))]
+#[tactic(auto, using(crate::proofs::Shifting::shift_more, crate::proofs::Shifting::shift_done), unfolding(ground::specs::Pick::pick))]
 fn shift_ends(ends: &mut [u64], left: u64)
     ensures { ends.new ≡ shifted 1 left ends.old }
 {
@@ -105,7 +105,7 @@ fn shift_ends(ends: &mut [u64], left: u64)
 }
 
 // Moves the octets of `left` slots up by one slot.
-#[tactic(auto, using(crate::proofs::Shifting::shift_more, crate::proofs::Shifting::shift_done))]
+#[tactic(auto, using(crate::proofs::Shifting::shift_more, crate::proofs::Shifting::shift_done), unfolding(ground::specs::Pick::pick))]
 fn shift_slots(slots: &mut [u8], width: usize, left: u64)
     ensures { slots.new ≡ shifted width (width * left) slots.old }
 {

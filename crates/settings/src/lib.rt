@@ -100,7 +100,7 @@ fn both(one: [bool; 8], other: [bool; 8]) -> [bool; 8]
 }
 
 // Whether a mark of an enabled priority is set.
-#[tactic(auto, using(crate::proofs::Settled::some_of_both))]
+#[tactic(auto, using(crate::proofs::Settled::some_of_both), unfolding(ground::specs::Pick::pick))]
 fn some_enabled(enabled: u8, marks: [bool; 8]) -> bool
     ensures { result ≡ some_enabled enabled (λ (n : ℕ). get_or marks n false) }
 {
@@ -138,7 +138,7 @@ fn refused_16(pause: u16, refresh: OctetTimes, one_way: OctetTimes) -> bool
     false
 }
 
-#[tactic(auto, using(crate::proofs::Settled::some_marked))]
+#[tactic(auto, using(crate::proofs::Settled::some_marked), unfolding(ground::specs::Pick::pick))]
 fn refused_15(enabled: u8, rooms: [u64; 8], headroom: u64, largest: u64, hysteresis: u64) -> bool
     requires { headroom + largest + hysteresis < 2 ^ 64 }
     ensures { result ≡ some_room_below enabled rooms (headroom + largest + hysteresis) }

@@ -20,7 +20,7 @@ fn data_octets(priority: u8, length: u16) -> [u8; 3]
 }
 
 // When the wire time of a frame of this length ends, if it starts now.
-#[tactic(auto, using(crate::proofs::Room::end_is))]
+#[tactic(auto, using(crate::proofs::Room::end_is), unfolding(ground::specs::Pick::pick))]
 fn data_end(clock: OctetTimes, length: u16) -> OctetTimes
     ensures { result ≡ data_end clock length }
 {
@@ -28,7 +28,7 @@ fn data_end(clock: OctetTimes, length: u16) -> OctetTimes
 }
 
 // The number of kind 02: 32, 33, 34, 35 and 36 in this order, else 0.
-#[tactic(auto, unfolding(crate::specs::Starting::data_number))]
+#[tactic(auto, unfolding(ground::specs::Pick::pick, crate::specs::Starting::data_number))]
 fn data_number(watch: Watch, bench: Bench, priority: u8, length: u16) -> u8
     ensures { result ≡ data_number watch bench priority length }
 {
@@ -44,7 +44,7 @@ fn data_number(watch: Watch, bench: Bench, priority: u8, length: u16) -> u8
 }
 
 // Kind 02: A starts a data frame.
-#[tactic(auto, using(bench_state::proofs::Either::refused_answered, bench_state::proofs::Either::accepted_answered, bench_state::proofs::Either::nothing_pushed, bench_state::proofs::Either::pushed, crate::proofs::Room::data_room))]
+#[tactic(auto, using(bench_state::proofs::Either::refused_answered, bench_state::proofs::Either::accepted_answered, bench_state::proofs::Either::nothing_pushed, bench_state::proofs::Either::pushed, crate::proofs::Room::data_room), unfolding(ground::specs::Pick::pick))]
 pub fn start_data(
     watch: Watch,
     bench: Bench,
@@ -75,7 +75,7 @@ pub fn start_data(
 }
 
 // The number of kind 04: 33, 34 and 38 in this order, else 0.
-#[tactic(auto, unfolding(crate::specs::Starting::other_number))]
+#[tactic(auto, unfolding(ground::specs::Pick::pick, crate::specs::Starting::other_number))]
 fn other_number(watch: Watch, bench: Bench, length: u16) -> u8
     ensures { result ≡ other_number watch bench length }
 {
@@ -90,7 +90,7 @@ fn other_number(watch: Watch, bench: Bench, length: u16) -> u8
 }
 
 // Kind 04: B starts some other frame, which only holds the wire.
-#[tactic(auto, using(bench_state::proofs::Either::refused_answered, bench_state::proofs::Either::accepted_answered))]
+#[tactic(auto, using(bench_state::proofs::Either::refused_answered, bench_state::proofs::Either::accepted_answered), unfolding(ground::specs::Pick::pick))]
 pub fn start_other(watch: Watch, bench: Bench, length: u16) -> Stepped
     ensures { result ≡ answered (other_number watch bench length) bench (other_holds bench length) }
 {

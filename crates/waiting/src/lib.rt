@@ -12,7 +12,7 @@ use units::OctetTimes;
 use walk::Walk;
 
 // A wait's walk from where the bench stands.
-#[tactic(auto, unfolding(crate::specs::Waiting::walk_from))]
+#[tactic(auto, unfolding(ground::specs::Pick::pick, crate::specs::Waiting::walk_from))]
 fn walk_from(watch: Watch, bench: Bench, n: u16) -> Walk
     ensures { result ≡ walk_from watch bench n }
 {
@@ -51,7 +51,7 @@ fn overrun(
 }
 
 // 40: a bound is overrun where a walk ends. One that is overrun on the way stays overrun.
-#[tactic(auto, unfolding(crate::specs::Waiting::late_after))]
+#[tactic(auto, unfolding(ground::specs::Pick::pick, crate::specs::Waiting::late_after))]
 fn late_after(watch: Watch, bench: Bench, ends: &[u64], pfc_ends: &[u64], walk: Walk) -> bool
     ensures { result ≡ late_after watch bench ends.now pfc_ends.now walk }
 {
@@ -70,7 +70,7 @@ fn late_after(watch: Watch, bench: Bench, ends: &[u64], pfc_ends: &[u64], walk: 
 }
 
 // The state where a walk ends.
-#[tactic(auto, unfolding(crate::specs::Waiting::after_walk))]
+#[tactic(auto, unfolding(ground::specs::Pick::pick, crate::specs::Waiting::after_walk))]
 fn after_walk(bench: Bench, walk: Walk) -> Bench
     ensures { result ≡ after_walk bench walk }
 {
@@ -87,7 +87,7 @@ fn after_walk(bench: Bench, walk: Walk) -> Bench
 }
 
 // A wait is taken whole or refused whole.
-#[tactic(auto, using(bench_state::proofs::Either::refused_answered, bench_state::proofs::Either::accepted_answered))]
+#[tactic(auto, using(bench_state::proofs::Either::refused_answered, bench_state::proofs::Either::accepted_answered), unfolding(ground::specs::Pick::pick))]
 fn whole_or_none(number: u8, before: Bench, after: Bench) -> Stepped
     ensures { result ≡ answered number before after }
 {
@@ -99,7 +99,7 @@ fn whole_or_none(number: u8, before: Bench, after: Bench) -> Stepped
 }
 
 // n octet times pass: 41 and 40 in this order, else the state where the walk ends.
-#[tactic(auto, using(bench_state::proofs::Either::refused_answered, crate::proofs::Far::far_first), unfolding(crate::specs::Waiting::waited_by))]
+#[tactic(auto, using(bench_state::proofs::Either::refused_answered, crate::proofs::Far::far_first), unfolding(ground::specs::Pick::pick, crate::specs::Waiting::waited_by))]
 pub fn wait_for(watch: Watch, bench: Bench, ends: &[u64], pfc_ends: &[u64], n: u16) -> Stepped
     ensures { result ≡ waited_by watch bench ends.now pfc_ends.now n }
 {

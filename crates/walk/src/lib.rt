@@ -41,7 +41,7 @@ fn head_at(head: Head, clock: OctetTimes) -> Head
 }
 
 // One octet time passes.
-#[tactic(auto, unfolding(crate::specs::Pacing::ticked))]
+#[tactic(auto, unfolding(ground::specs::Pick::pick, crate::specs::Pacing::ticked))]
 fn tick(pace: Pace) -> Pace
     requires { pace.clock.0 < farthest }
     ensures { result ≡ ticked pace }
@@ -56,7 +56,7 @@ fn tick(pace: Pace) -> Pace
 }
 
 // n octet times pass, one after the other.
-#[tactic(auto, using(crate::proofs::Walking::pace_more, crate::proofs::Walking::pace_none), unfolding(crate::specs::Pacing::paced_by))]
+#[tactic(auto, using(crate::proofs::Walking::pace_more, crate::proofs::Walking::pace_none), unfolding(ground::specs::Pick::pick, crate::specs::Pacing::paced_by))]
 fn paced(pace: Pace, n: u64) -> Pace
     requires { pace.clock.0 + n < farthest }
     ensures { result ≡ paced_by pace n }
@@ -72,7 +72,7 @@ fn paced(pace: Pace, n: u64) -> Pace
 }
 
 // n octet times pass; where the refresh fell due on the way, PFC is due since its own moment.
-#[tactic(auto, using(crate::proofs::Walking::walk_paced))]
+#[tactic(auto, using(crate::proofs::Walking::walk_paced), unfolding(ground::specs::Pick::pick))]
 fn walked_on(walk: Walk, refresh: Moment, n: u64) -> Walk
     requires { walk.clock.0 + n < farthest }
     ensures { result ≡ walked_on walk refresh n }
@@ -91,7 +91,7 @@ fn walked_on(walk: Walk, refresh: Moment, n: u64) -> Walk
 }
 
 // Whether n octet times on from a moment are below the farthest that a walk goes.
-#[tactic(auto, using(crate::proofs::WalkLaws::near_left, crate::proofs::WalkLaws::none_near))]
+#[tactic(auto, using(crate::proofs::WalkLaws::near_left, crate::proofs::WalkLaws::none_near), unfolding(ground::specs::Pick::pick))]
 fn is_near(clock: OctetTimes, n: u64) -> bool
     ensures { result ≡ is_near clock.0 n }
 {

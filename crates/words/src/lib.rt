@@ -34,7 +34,7 @@ fn wide(octet: u8) -> u64
 }
 
 // A word of decimal digits as a number, up to what 64 bits hold. Any octets are answered.
-#[tactic(auto, using(crate::proofs::Numbers::no_number, crate::proofs::Reading::Reading, crate::proofs::Reading::start, crate::proofs::Reading::too_low, crate::proofs::Reading::too_high, crate::proofs::Reading::too_large, crate::proofs::Reading::next, crate::proofs::Reading::ends, crate::proofs::Reading::some, crate::proofs::Reading::none))]
+#[tactic(auto, using(crate::proofs::Numbers::no_number, crate::proofs::Reading::start, crate::proofs::Reading::too_low, crate::proofs::Reading::too_high, crate::proofs::Reading::too_large, crate::proofs::Reading::next, crate::proofs::Reading::ends, crate::proofs::Reading::some, crate::proofs::Reading::none), unfolding(ground::specs::Pick::pick))]
 pub fn number_of(word: &[u8]) -> Word
     ensures { (word_number_of result ≡ 0) × (result ≡ number_of word.now) }
 {
