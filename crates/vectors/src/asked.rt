@@ -103,7 +103,10 @@ pub(crate) fn choice(rt: &HostRuntime, body: &[u8]) -> bool {
         return print::short(rt);
     }
     let paused = octets::bits(body[16]);
-    print::choice(rt, choice::choose(fields::row(body, 0), fields::row(body, 8), paused))
+    print::choice(
+        rt,
+        choice::choose(fields::row(body, 0), fields::row(body, 8), paused),
+    )
 }
 
 // Rate, metres, percentage, M, generation, B transmit, B receive, A transmit, A receive, halt: 8 octets each.

@@ -84,7 +84,8 @@ fn eight(rt: &HostRuntime, is_well: bool, numbers: [u16; 8]) -> bool {
 }
 
 fn asks(rt: &HostRuntime, asked: Request) -> bool {
-    eight(rt, 
+    eight(
+        rt,
         item(rt, true, b"read request ", asked.e as u64),
         frame::times_of(asked),
     )
