@@ -73,17 +73,6 @@ pub times_joined : (times : List ℕ) {t0 t1 t2 t3 t4 t5 t6 t7 : List ℕ} →
     get_or t4 0 0 ∷ get_or t4 1 0 ∷ get_or t5 0 0 ∷ get_or t5 1 0 ∷ get_or t6 0 0 ∷ get_or t6 1 0 ∷ get_or t7 0 0 ∷ get_or t7 1 0 ∷ []) ≡ all_time_octets times
 times_joined times p0 p1 p2 p3 p4 p5 p6 p7 = rw (p0, p1, p2, p3, p4, p5, p6, p7)
 
--- octets copied to the front of a list
-copied : (octets list : List ℕ) (n : ℕ) → length octets ≡ n → take (length octets) octets ++ drop (length octets) list ≡ octets ++ drop n list
-copied octets list n long = rw (take_all (length octets) octets (omega arith), long)
-
--- the lead copied to the front of 60 zeroes, then the times after it
-pub parts_joined : (lead times first after : List ℕ) → length lead ≡ 18 → length times ≡ 16 →
-    first ≡ take (length lead) lead ++ drop (length lead) (replicate 60 0) →
-    after ≡ take (length times) times ++ drop (length times) (mid_of 18 42 first) → put_mid 18 42 first after ≡ lead ++ times ++ replicate 26 0
-parts_joined lead times first after l t is then =
-    let whole : first ≡ lead ++ replicate 42 0 = is ∙ copied lead (replicate 60 0) 18 l in
-    let front : take 18 first ≡ lead = ap (take 18) whole ∙ take_at lead (replicate 42 0) 18 l in
-    let rest : drop 18 first ≡ replicate 42 0 = ap (drop 18) whole ∙ drop_at lead (replicate 42 0) 18 l in
-    let second : after ≡ times ++ replicate 26 0 = then ∙ copied times (mid_of 18 42 first) 16 t ∙ ap (λ (z : List ℕ). times ++ drop 16 (take 42 z)) rest in
-    rw (front, second, rest) (simp (append-nil, append_assoc))
+-- the times put after the lead, in the place of 16 of the octets there
+pub parts_joined : (lead times rest : List ℕ) → length lead ≡ 18 → put_mid 18 16 (lead ++ rest) times ≡ lead ++ times ++ drop 16 rest
+parts_joined lead times rest long = rw (take_at lead rest 18 long, drop_at lead rest 18 long) (simp append_assoc)

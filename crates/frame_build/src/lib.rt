@@ -59,13 +59,13 @@ fn lead_octets(source: [u8; 6], e: u8) -> [u8; 18]
 }
 
 // The 60 octets of a frame: those before the times, the times, zeroes.
-#[tactic(auto, using(crate::proofs::Building::parts_joined), unfolding(ground::specs::Pick::pick))]
+
 fn frame_octets(lead: [u8; 18], times: [u8; 16]) -> [u8; frame::FRAME_OCTETS]
     ensures { result ≡ lead ++ times ++ replicate 26 0 }
 {
     let mut made = [0u8; frame::FRAME_OCTETS];
-    bytes::copy(&lead, &mut made);
-    bytes::copy(&times, &mut made[18..]);
+    made[..18].copy_from_slice(&lead);
+    made[18..34].copy_from_slice(&times);
     made
 }
 
@@ -88,12 +88,12 @@ fn put(made: &[u8], buffer: &mut [u8])
     requires { length made.now ≤ length buffer.old }
     ensures { buffer.new ≡ put_before made.now buffer.old }
 {
-    bytes::copy(made, buffer);
+    buffer[..made.len()].copy_from_slice(made);
 }
 
 // Writes the PFC frame with this source, enable octet and times into the buffer's first 60 octets and leaves the rest. A buffer under
 // 60 octets is refused with 5, a source with the group bit with 6, and then no octet changes.
-#[tactic(auto, using(crate::proofs::Building::build_by, crate::proofs::Building::built_refused, crate::proofs::Building::built_written, crate::proofs::Building::has_room), unfolding(ground::specs::Pick::pick, crate::specs::Build::buffer_for))]
+
 pub fn build(buffer: &mut [u8], source: [u8; 6], e: u8, times: [u16; 8]) -> Built
     ensures { (build_number_of result ≡ first_of (building_order (length buffer.old) source))
         × (result ≡ build_verdict (length buffer.old) source)

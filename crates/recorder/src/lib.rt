@@ -45,7 +45,7 @@ fn size_of(sizes: [u64; 8], priority: u8) -> u64
 
 // A frame of this priority and length arrives at a room with these limits: it is held where it fits, else dropped and counted, and the
 // marks are tried. A priority that is not enabled, or above 7, changes nothing.
-#[tactic(auto, using(settings::proofs::SettingsLaws::enabled_below, crate::proofs::Marking::room_put), unfolding(crate::specs::Watching::arrived_with, ground::specs::Pick::pick))]
+#[tactic(auto, using(settings::proofs::SettingsLaws::enabled_below), unfolding(crate::specs::Watching::arrived_with, ground::specs::Pick::pick))]
 pub fn arrived(
     numbers: &mut [[u64; 4]; 8],
     marks: Marks,
@@ -76,7 +76,7 @@ pub struct Taking {
 }
 
 // Octets of a priority are taken from a room with these limits: 32, 43 and 42 in this order, else they leave it and the marks are tried.
-#[tactic(auto, using(crate::proofs::Marking::room_put, crate::proofs::Marking::taking_32, crate::proofs::Marking::taking_43, crate::proofs::Marking::taking_42, crate::proofs::Marking::taking_0), unfolding(ground::specs::Pick::pick, crate::specs::Watching::taken_with))]
+
 pub fn taken(
     numbers: &mut [[u64; 4]; 8],
     marks: Marks,

@@ -67,7 +67,7 @@ fn write_at(slots: &mut [u8], place: usize, octets: &[u8])
     if slots.len() - place < octets.len() {
         return;
     }
-    bytes::copy(octets, &mut slots[place..]);
+    slots[place..place + octets.len()].copy_from_slice(octets);
 }
 
 // Puts a frame behind `count` others: its end at that place of the ends, its octets, as many as a slot has, in that slot.

@@ -164,7 +164,7 @@ fn bounds_refusal(is_17: bool, is_18: bool, is_16: bool) -> u8
 }
 
 // Refusals 17, 18, 16 and 15, of settings that 13 and 14 passed; 0 where none of them holds.
-#[tactic(auto, using(crate::proofs::Settled::calm, crate::proofs::Settled::own_passage, crate::proofs::Settled::own_headroom, crate::proofs::Settled::bounds_refused, crate::proofs::Settled::bounds_passed), unfolding(ground::specs::Pick::pick))]
+#[tactic(auto, using(crate::proofs::Settled::own_passage, crate::proofs::Settled::own_headroom, crate::proofs::Settled::bounds_refused, crate::proofs::Settled::bounds_passed), unfolding(ground::specs::Pick::pick))]
 fn house_refusal(s: Settings, kept: Kept) -> u8
     requires { Carries s kept }
     ensures { result ≡ house_refusal s }
