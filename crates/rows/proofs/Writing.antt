@@ -41,22 +41,15 @@ module _ (place : ℕ) (octets list : List ℕ) where
   pub written_length : length (written place octets list) ≡ length list
   written_length = length_by _ refl
 
-  -- octets copied to the front of the part that starts at the place
-  pub written_part : place + length octets ≤ length list → (part : List ℕ) →
-      part ≡ take (length octets) octets ++ drop (length octets) (take (length list - place) (drop place list)) →
-      take place list ++ (part ++ drop (length list - place) (drop place list)) ≡ written place octets list
+  -- octets copied into the part of their length that starts at the place
+  pub written_part : place + length octets ≤ length list → (part : List ℕ) → part ≡ octets →
+      take place list ++ (part ++ drop (place + length octets - place) (drop place list)) ≡ written place octets list
   written_part fits part copied =
       let n = length octets in
-      let rest : List ℕ = drop (length list - place) (drop place list) in
-      let none : rest ≡ [] = drop_of_length-le (drop place list) {i = length list - place} (omega (arith, length-drop place list)) in
-      let all : part ≡ octets ++ drop (place + n) list =
-      copied ∙
-      ap (λ (o : List ℕ). o ++ drop n (take (length list - place) (drop place list))) (take-length octets) ∙
-      ap (λ (r : List ℕ). octets ++ drop n r) (take_rest place list) ∙
-      ap (λ (r : List ℕ). octets ++ r) (drop-drop n place list) in
-      ap (λ (p : List ℕ). take place list ++ (p ++ rest)) all ∙
-      ap (λ (r : List ℕ). take place list ++ ((octets ++ drop (place + n) list) ++ r)) none ∙
-      ap (λ (p : List ℕ). take place list ++ p) (append-nil (octets ++ drop (place + n) list)) ∙
+      let width : place + n - place ≡ n = omega arith in
+      ap (λ (p : List ℕ). take place list ++ (p ++ drop (place + n - place) (drop place list))) copied ∙
+      ap (λ (m : ℕ). take place list ++ (octets ++ drop m (drop place list))) width ∙
+      ap (λ (r : List ℕ). take place list ++ (octets ++ r)) (drop-drop n place list) ∙
       sym (written_in fits)
 
 -- a place behind the end is the end: nothing is written at either

@@ -57,7 +57,7 @@ fn write_end(ends: &mut [u64], count: u64, end: u64)
 }
 
 // Writes octets at a place, if they fit there.
-#[tactic(auto, using(crate::proofs::Writing::written_out, crate::proofs::Writing::written_part), unfolding(ground::specs::Pick::pick))]
+#[tactic(auto, using(crate::proofs::Writing::written_out), unfolding(ground::specs::Pick::pick))]
 fn write_at(slots: &mut [u8], place: usize, octets: &[u8])
     ensures { slots.new ≡ written place octets.now slots.old }
 {
@@ -92,7 +92,6 @@ fn movable(size: usize, width: usize, left: u64) -> usize
 }
 
 // Moves `left` ends up by one place.
-#[tactic(auto, using(crate::proofs::Shifting::shift_more, crate::proofs::Shifting::shift_done), unfolding(ground::specs::Pick::pick))]
 fn shift_ends(ends: &mut [u64], left: u64)
     ensures { ends.new ≡ shifted 1 left ends.old }
 {
@@ -105,7 +104,6 @@ fn shift_ends(ends: &mut [u64], left: u64)
 }
 
 // Moves the octets of `left` slots up by one slot.
-#[tactic(auto, using(crate::proofs::Shifting::shift_more, crate::proofs::Shifting::shift_done), unfolding(ground::specs::Pick::pick))]
 fn shift_slots(slots: &mut [u8], width: usize, left: u64)
     ensures { slots.new ≡ shifted width (width * left) slots.old }
 {
