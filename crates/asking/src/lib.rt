@@ -42,7 +42,7 @@ fn pfc_octets(watch: Watch, bench: Bench) -> [u8; 60]
 }
 
 // Kind 05: B starts the PFC frame, with the marks as they stand.
-#[tactic(auto, using(bench_state::proofs::Either::refused_answered, bench_state::proofs::Either::accepted_answered, bench_state::proofs::Either::nothing_pushed, bench_state::proofs::Either::pushed, crate::proofs::Room::pfc_room, crate::proofs::Room::end_now), unfolding(ground::specs::Pick::pick))]
+#[tactic(auto, using(crate::proofs::Room::pfc_room, crate::proofs::Room::end_now), unfolding(ground::specs::Pick::pick))]
 pub fn start_pfc(watch: Watch, bench: Bench, ends: &mut [u64], slots: &mut [u8]) -> Stepped
     ensures { (result ≡ answered (pfc_number bench) bench (pfc_joins bench))
         × Pushed (pfc_number bench) bench.to_a (pfc_end bench.clock).0 (pfc_now watch bench.marks)

@@ -35,7 +35,7 @@ pub struct Stepped {
 }
 
 // The outcome of a record with this number; 0 stands for none.
-#[tactic(auto, using(crate::proofs::Either::outcome_none, crate::proofs::Either::outcome_some), unfolding(ground::specs::Pick::pick))]
+#[tactic(auto, unfolding(ground::specs::Pick::pick, crate::specs::Answered::number_of, crate::specs::Answered::outcome_of))]
 pub fn outcome_of(number: u8) -> Outcome
     ensures { (number_of result ≡ number) × (result ≡ outcome_of number) }
 {

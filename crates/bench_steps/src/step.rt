@@ -24,7 +24,6 @@ fn fits(count: u64, ends: usize, slots: usize, width: usize) -> bool
 }
 
 // One record on arrays that have the places.
-#[tactic(auto, using(records::proofs::Decoding::decoded_nonzero, bench_memory::proofs::Answered::answers_asked, bench_memory::proofs::Answered::octets_answers, bench_memory::proofs::EachKind::start_data_answers, bench_memory::proofs::EachKind::arrive_answers, bench_memory::proofs::EachKind::start_other_answers, bench_memory::proofs::EachKind::start_pfc_answers, bench_memory::proofs::EachKind::take_effect_answers, bench_memory::proofs::EachKind::take_octets_answers, bench_memory::proofs::WaitLaws::wait_answers), unfolding(ground::specs::Pick::pick))]
 fn asked(
     watch: Watch,
     bench: Bench,
@@ -63,7 +62,6 @@ fn asked(
 // One record of the bench: its refusal, or the state after it. The arrays are lent, so that the rooms and the frames under way are not
 // copied: of 128 places each, the slots of data frames 3 octets wide and those of PFC frames 60. In arrays that lack the places, or with
 // more than 128 frames said to be under way, nothing changes and 36 is answered.
-#[tactic(auto, using(bench_memory::proofs::Stepping::unfit_to_b, bench_memory::proofs::Stepping::unfit_to_a, bench_memory::proofs::Stepping::fit_lent, bench_memory::proofs::Stepping::fit_answers), unfolding(ground::specs::Pick::pick, bench_memory::specs::Memory::lane_fits))]
 pub fn step(
     watch: Watch,
     bench: Bench,

@@ -32,7 +32,6 @@ fn empty_bench(enabled: u8) -> Bench
 }
 
 // The records after accepted settings, one after the other, up to the first refusal.
-#[tactic(auto, using(bench_memory::proofs::Stepping::step_lent, bench_state::proofs::Either::accepted_zero, bench_state::proofs::Either::refused_nonzero, crate::proofs::Following::starts, crate::proofs::Following::ended, crate::proofs::Following::stopped, crate::proofs::Following::went_on), unfolding(ground::specs::Pick::pick))]
 pub fn follow(watch: Watch, input: &[u8]) -> Report
     ensures { result ≡ follow_of watch input.now }
 {

@@ -44,7 +44,7 @@ fn data_number(watch: Watch, bench: Bench, priority: u8, length: u16) -> u8
 }
 
 // Kind 02: A starts a data frame.
-#[tactic(auto, using(bench_state::proofs::Either::refused_answered, bench_state::proofs::Either::accepted_answered, bench_state::proofs::Either::nothing_pushed, bench_state::proofs::Either::pushed, crate::proofs::Room::data_room), unfolding(ground::specs::Pick::pick))]
+#[tactic(auto, using(crate::proofs::Room::data_room), unfolding(ground::specs::Pick::pick))]
 pub fn start_data(
     watch: Watch,
     bench: Bench,

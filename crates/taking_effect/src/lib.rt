@@ -42,7 +42,7 @@ fn effect(found: Verdict, head: Head) -> Head
 }
 
 // Kind 06: the oldest PFC frame takes effect at A.
-#[tactic(auto, using(bench_state::proofs::Either::refused_answered, bench_state::proofs::Either::accepted_answered, bench_state::proofs::Either::nothing_left, bench_state::proofs::Either::left, bench_state::proofs::Ended::ended_some), unfolding(ground::specs::Pick::pick))]
+#[tactic(auto, using(bench_state::proofs::Ended::ended_some), unfolding(ground::specs::Pick::pick))]
 pub fn take_effect(watch: Watch, bench: Bench, ends: &mut [u64], slots: &mut [u8]) -> Stepped
     ensures { (result ≡ answered (ended_in bench.to_a.count ends.old bench.clock.0) bench
         (effect_leaves watch bench slots.old))

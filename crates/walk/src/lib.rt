@@ -72,7 +72,6 @@ fn paced(pace: Pace, n: u64) -> Pace
 }
 
 // n octet times pass; where the refresh fell due on the way, PFC is due since its own moment.
-#[tactic(auto, using(crate::proofs::Walking::walk_paced), unfolding(ground::specs::Pick::pick))]
 fn walked_on(walk: Walk, refresh: Moment, n: u64) -> Walk
     requires { walk.clock.0 + n < farthest }
     ensures { result ≡ walked_on walk refresh n }
