@@ -67,7 +67,12 @@ fn report_on(page: Page, report: Report) -> Page {
 // Runs the records and prints the report, then says what its refusal means.
 fn answer(rt: &HostRuntime, input: &[u8]) {
     let report = bench_run::run(input);
-    if console::output::write_page(rt, b"bench", report_on(page::blank(), report)) {
+    if console::output::write_page(
+        rt,
+        &mut rt.stdout(),
+        b"bench",
+        report_on(page::blank(), report),
+    ) {
         meaning::tell(rt, report.refusal, report.at, input);
     }
 }
@@ -79,7 +84,7 @@ fn buffer() -> [u8; 65_537] {
 
 fn main(rt: HostRuntime) {
     let mut input = buffer();
-    let reading = console::input::read_whole(&rt, b"bench", &mut input);
+    let reading = console::input::read_whole(&rt, &mut rt.stdin(), b"bench", &mut input);
     if reading.is_whole {
         let n = reading.count;
         answer(&rt, &input[..n]);

@@ -1,6 +1,8 @@
-// Reading the whole of standard input. A read that fails is not the end of the input: it is told on standard error.
-ghost use Rattle.std.specs.Prelude.{◌≤◌, ◌≡◌, length};
+// Reading the whole of an input. A read that fails is not the end of the input: it is told on standard error.
+ghost use Rattle.std.specs.Prelude.{◌<◌, ◌≤◌, ◌≡◌, true, false, length, take};
+ghost use Rattle.std.specs.Io.KnownBytes.{Consumes, IsAtEnd};
 ghost use Rattle.console.specs.Counts.{IsPrefixLen};
+ghost use Rattle.remarks.specs.Errors.{is_none};
 
 use remarks::EINTR;
 use std::io::Read;
@@ -22,7 +24,9 @@ struct Turn {
 
 // What a call that failed comes to: an interrupted one is tried again.
 fn failed(error: i32) -> Turn
-    ensures { result.count ≤ 0 }
+    requires { is_none error ≡ false }
+    ensures count { result.count ≡ 0 }
+    ensures failed { result.is_last ≡ true → is_none result.error ≡ false }
 {
     if error == EINTR {
         return Turn {
@@ -39,10 +43,12 @@ fn failed(error: i32) -> Turn
 }
 
 // One read into what is left of a buffer. Where nothing is left, or nothing came, it was the last.
-fn read_once(rt: &HostRuntime, rest: &mut [u8]) -> Turn
-    ensures { result.count ≤ length rest.old }
+fn read_once<R: Read>(input: &mut R, rest: &mut [u8]) -> Turn
+    ensures count { result.count ≤ length rest.old }
+    ensures came { Consumes (R.remaining input.old) (R.remaining input.new) (take result.count rest.new) }
+    ensures last { result.is_last ≡ true → is_none result.error ≡ true → 0 < length rest.old → IsAtEnd (R.remaining input.new) }
 {
-    match rt.stdin().read(rest) {
+    match input.read(rest) {
         Ok(got) => Turn {
             count: got,
             error: 0,
@@ -53,7 +59,8 @@ fn read_once(rt: &HostRuntime, rest: &mut [u8]) -> Turn
 }
 
 fn told(rt: &HostRuntime, name: &[u8], error: i32, count: usize) -> Reading
-    ensures { result.count ≡ count }
+    ensures count { result.count ≡ count }
+    ensures whole { result.is_whole ≡ is_none error }
 {
     Reading {
         count,
@@ -66,14 +73,22 @@ fn told(rt: &HostRuntime, name: &[u8], error: i32, count: usize) -> Reading
     }
 }
 
-// Reads standard input to its end, or until the buffer is full. A read that fails is told on standard error, behind the program's name.
+// Reads an input to its end, or until the buffer is full. A read that fails is told on standard error, behind the program's name.
 // (A loop that is proved has to end: the turns are counted up to a number that no run reaches.)
-pub fn read_whole(rt: &HostRuntime, name: &[u8], buffer: &mut [u8]) -> Reading
-    ensures { IsPrefixLen result.count buffer.new }
+#[tactic(auto, using(crate::proofs::Rest::more_came), unfolding(remarks::specs::Errors::is_none))]
+pub fn read_whole<R: Read>(
+    rt: &HostRuntime,
+    input: &mut R,
+    name: &[u8],
+    buffer: &mut [u8],
+) -> Reading
+    ensures count { IsPrefixLen result.count buffer.new }
+    ensures came { Consumes (R.remaining input.old) (R.remaining input.new) (take result.count buffer.new) }
+    ensures whole { result.is_whole ≡ true → result.count < length buffer.new → IsAtEnd (R.remaining input.new) }
 {
     let mut at: usize = 0;
     for _ in 0..u64::MAX {
-        let turn = read_once(rt, &mut buffer[at..]);
+        let turn = read_once(input, &mut buffer[at..]);
         at += turn.count;
         if turn.is_last {
             return told(rt, name, turn.error, at);

@@ -1,70 +1,49 @@
-// Writing on standard output. A write that fails is told on standard error.
-ghost use Rattle.std.specs.Prelude.{◌<◌, ◌≤◌, ◌≡◌, false, length};
+// Writing a report. A write that fails is told on standard error.
+ghost use Rattle.std.specs.Prelude.{◌<◌, ◌≡◌, true, false, length, take};
+ghost use Rattle.std.specs.Io.KnownBytes.{Appends, Keeps};
+ghost use Rattle.remarks.specs.Errors.{is_none};
 
 use page::Page;
-use remarks::{EINTR, EIO};
+use std::io::Write;
 
-// What one call gave: so many octets, and the system's number of its error or 0.
-#[derive(Drop)]
-struct Turn {
-    count: usize,
-    error: i32,
-}
-
-// What a call that failed comes to: an interrupted one is tried again.
-fn failed(error: i32) -> Turn
-    ensures { result.count ≤ 0 }
+// Writes all of these octets: the number of the error of a write that failed, or 0. An interrupted write is tried again; one that takes
+// nothing, which no file should do, counts as an error of the device.
+fn write_all<W: Write>(output: &mut W, octets: &[u8]) -> i32
+    ensures { is_none result ≡ true → Appends (W.contents output.old) (W.contents output.new) octets.now }
 {
-    if error == EINTR {
-        return Turn { count: 0, error: 0 };
+    match output.write_all(octets) {
+        Ok(()) => 0,
+        Err(error) => remarks::number_of(&error),
     }
-    Turn { count: 0, error }
-}
-
-// One write of what is left. One that takes nothing, which no file should do, counts as an error of the device.
-fn write_once(rt: &HostRuntime, rest: &[u8]) -> Turn
-    ensures { result.count ≤ length rest.now }
-{
-    match rt.stdout().write_some(rest) {
-        Ok(0) => failed(EIO),
-        Ok(count) => Turn { count, error: 0 },
-        Err(error) => failed(remarks::number_of(&error)),
-    }
-}
-
-// Writes all of these octets: the number of the error of a write that failed, or 0.
-fn write_all(rt: &HostRuntime, octets: &[u8]) -> i32 {
-    let mut at: usize = 0;
-    for _ in 0..u64::MAX {
-        if at == octets.len() {
-            return 0;
-        }
-        let turn = write_once(rt, &octets[at..]);
-        if turn.error != 0 {
-            return turn.error;
-        }
-        at += turn.count;
-    }
-    EINTR
 }
 
 // Writes all of these octets, and answers whether that was done. A write that fails is told, behind the program's name.
-fn tried(rt: &HostRuntime, name: &[u8], octets: &[u8]) -> bool {
+fn tried<W: Write>(rt: &HostRuntime, output: &mut W, name: &[u8], octets: &[u8]) -> bool
+    ensures { result ≡ true → Appends (W.contents output.old) (W.contents output.new) octets.now }
+{
     remarks::tell(
         rt,
         name,
         b": no whole report, since standard output could not be written: error ",
-        write_all(rt, octets),
+        write_all(output, octets),
     )
 }
 
 // Writes these octets where all before them were written, and answers whether that is so of them too. A write that fails is told on
 // standard error, behind the program's name; after it nothing more is written.
-pub fn write(rt: &HostRuntime, name: &[u8], is_well: bool, octets: &[u8]) -> bool
-    ensures { is_well ≡ false → result ≡ false }
+pub fn write<W: Write>(
+    rt: &HostRuntime,
+    output: &mut W,
+    name: &[u8],
+    is_well: bool,
+    octets: &[u8],
+) -> bool
+    ensures stopped { is_well ≡ false → result ≡ false }
+    ensures kept { is_well ≡ false → Keeps (W.contents output.old) (W.contents output.new) }
+    ensures written { result ≡ true → Appends (W.contents output.old) (W.contents output.new) octets.now }
 {
     if is_well {
-        return tried(rt, name, octets);
+        return tried(rt, output, name, octets);
     }
     false
 }
@@ -77,21 +56,31 @@ fn overfull(rt: &HostRuntime, name: &[u8]) {
 }
 
 // Writes the first octets, as many as are used. More used than there are is told, and nothing is written.
-fn write_first(rt: &HostRuntime, name: &[u8], octets: &[u8], used: usize) -> bool
-    ensures { length octets.now < used → result ≡ false }
+fn write_first<W: Write>(
+    rt: &HostRuntime,
+    output: &mut W,
+    name: &[u8],
+    octets: &[u8],
+    used: usize,
+) -> bool
+    ensures stopped { length octets.now < used → result ≡ false }
+    ensures kept { length octets.now < used → Keeps (W.contents output.old) (W.contents output.new) }
+    ensures written { result ≡ true → Appends (W.contents output.old) (W.contents output.new) (take used octets.now) }
 {
     if octets.len() < used {
         overfull(rt, name);
         return false;
     }
-    tried(rt, name, &octets[..used])
+    tried(rt, output, name, &octets[..used])
 }
 
 // Writes what is on a page, and answers whether all of it was written. A write that fails is told as by `write`; so is an overfull page, of
 // which nothing is written.
-pub fn write_page(rt: &HostRuntime, name: &[u8], page: Page) -> bool
-    ensures { length page.octets < page.used → result ≡ false }
+pub fn write_page<W: Write>(rt: &HostRuntime, output: &mut W, name: &[u8], page: Page) -> bool
+    ensures stopped { length page.octets < page.used → result ≡ false }
+    ensures kept { length page.octets < page.used → Keeps (W.contents output.old) (W.contents output.new) }
+    ensures written { result ≡ true → Appends (W.contents output.old) (W.contents output.new) (take page.used page.octets) }
 {
     let octets = page.octets;
-    write_first(rt, name, &octets, page.used)
+    write_first(rt, output, name, &octets, page.used)
 }

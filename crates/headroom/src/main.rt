@@ -14,7 +14,7 @@ use words::Word;
 
 // Prints a page; a write that fails is said on standard error.
 fn show(rt: &HostRuntime, page: Page) {
-    console::output::write_page(rt, b"headroom", page);
+    console::output::write_page(rt, &mut rt.stdout(), b"headroom", page);
 }
 
 // Room for an argument.

@@ -8,7 +8,7 @@ use Rattle.remarks.proofs.tell.Kinds as tell_kinds
 use Rattle.remarks.proofs.tell.Reads as tell
 
 pub number_of_decides : Decides 1 number_of_kinds.ps number_of_kinds.r number_of.Post
-number_of_decides κs args x y e f p q = p ∙ sym q
+number_of_decides κs args x y e f p q = p.0 ∙ sym q.0
 
 pub tell_decides : Decides 3 tell_kinds.ps tell_kinds.r tell.Post
 tell_decides κs args x y e f p q = p ∙ sym q

@@ -3,7 +3,7 @@
 #![tactic(auto)]
 
 ghost use Rattle.std.specs.Prelude.{◌<◌, ◌≡◌, false, length};
-ghost use Rattle.remarks.specs.Errors.{is_none, system_number};
+ghost use Rattle.remarks.specs.Errors.{is_none, or_device, system_number};
 
 use page::Page;
 use std::io::Error;
@@ -27,11 +27,24 @@ pub const ENOSPC: i32 = 28;
 
 pub const EPIPE: i32 = 32;
 
-// The system's number of an error of std's; an error that has none counts as one of the device.
-pub fn number_of(error: &Error) -> i32
-    ensures { result ≡ system_number error.now }
+// The number of an error, never 0: where it would be, that of a device that failed.
+#[tactic(auto, using(ground::proofs::Tests::tests), unfolding(ground::specs::Pick::pick, crate::specs::Errors::is_none, crate::specs::Errors::or_device))]
+fn or_device(number: i32) -> i32
+    ensures number { result ≡ or_device number }
+    ensures failed { is_none result ≡ false }
 {
-    error.raw_os_error().unwrap_or(EIO)
+    if number == 0 {
+        return EIO;
+    }
+    number
+}
+
+// The system's number of an error of std's, never 0: an error that has none counts as one of the device.
+pub fn number_of(error: &Error) -> i32
+    ensures number { result ≡ system_number error.now }
+    ensures failed { is_none result ≡ false }
+{
+    or_device(error.raw_os_error().unwrap_or(EIO))
 }
 
 // The first octets on standard error, as many as are used; nothing where more are used than there are.

@@ -50,7 +50,7 @@ fn buffer() -> [u8; 1_048_576] {
 
 fn main(rt: HostRuntime) {
     let mut file = buffer();
-    let reading = console::input::read_whole(&rt, b"vectors", &mut file);
+    let reading = console::input::read_whole(&rt, &mut rt.stdin(), b"vectors", &mut file);
     if reading.is_whole {
         let n = reading.count;
         answer_all(&rt, &mut file[..n]);

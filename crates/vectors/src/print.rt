@@ -12,7 +12,7 @@ use room_to_keep::Kept;
 use settings::Settling;
 
 fn text(rt: &HostRuntime, is_well: bool, words: &[u8]) -> bool {
-    console::output::write(rt, b"vectors", is_well, words)
+    console::output::write(rt, &mut rt.stdout(), b"vectors", is_well, words)
 }
 
 // A word and a number after it.
