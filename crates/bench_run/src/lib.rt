@@ -96,7 +96,7 @@ fn input_refusal(kind: u8, size: usize) -> u8
 }
 
 // Settings of 58 octets or more, and what follows them.
-#[tactic(auto, using(crate::proofs::Running::settled_refused, crate::proofs::Running::settled_accepted, ground::proofs::Parts::take_rest), unfolding(ground::specs::Pick::pick))]
+#[tactic(auto, using(crate::proofs::Running::settled_refused), unfolding(ground::specs::Pick::pick))]
 fn settled(input: &[u8]) -> Report
     requires { 58 ≤ length input.now }
     ensures { result ≡ settled_of input.now }

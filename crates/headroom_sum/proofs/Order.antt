@@ -8,20 +8,22 @@ use borrow.Author.Tests.{lt-ltb, le-ltb, ltb-false}
 use lib.Dec.{ltb}
 use Rattle.ground.specs.Pick.{pick}
 use Rattle.ground.specs.First.{◌gives◌, first_of, test_at, is_among, are_apart}
-use Rattle.ground.proofs.Pick.{pick_no}
+use Rattle.ground.proofs.Pick.{pick_yes, pick_no}
 use Rattle.ground.proofs.First.{first_given}
 use Rattle.units.specs.declared.BitTimes.{BitTimes}
 use Rattle.units.specs.Units.{bits_of_quanta}
-use Rattle.limits.specs.Limits.{largest_delay, largest_path, delay_over, path_over}
+use Rattle.limits.specs.Limits.{largest_delay, largest_path, refused13, delay_over, path_over}
 use Rattle.room_to_keep.specs.Keep.{kept}
 use Rattle.room_to_keep.specs.declared.Kept.{Kept}
 use Rattle.room_to_keep.proofs.Room.{neither}
 use Rattle.headroom_sum.specs.Rates.{halt_limit, refused10}
 use Rattle.headroom_sum.specs.Headroom.{largest_metres, least_percentage, largest_percentage, total_bits, refused11, refused12, refused19}
-use Rattle.headroom_sum.specs.Sum.{items, link_of, request_of, data_of, paths_over, sum_refusal}
-use Rattle.headroom_sum.specs.Stages.{from_m, BeforePaths}
+use Rattle.headroom_sum.specs.Sum.{items, link_of, request_of, data_of, stations_over, paths_over, sum_refusal, summed}
+use Rattle.headroom_sum.specs.Stages.{from_m, Linked, BeforePaths}
 use Rattle.headroom_sum.specs.declared.Inputs.{Inputs}
 use Rattle.headroom_sum.specs.declared.Items.{Items}
+use Rattle.headroom_sum.specs.declared.Summed.{Summed}
+use Rattle.headroom_sum.proofs.Exactly.{answered_by}
 
 -- what the station delays' test says where it does not hold
 pub record Fitting (b_transmit b_receive a_transmit a_receive : ℕ) : Type 0 where
@@ -108,3 +110,25 @@ module _ (i : Inputs) where
       room ≡ kept i.largest i.generation.0 (request_of i) (data_of i) →
       ◌≡◌ {A = Items} (record { link = link; request_path = request; data_path = «data»; total = total; room = room }) (items i)
   items_made link request «data» total room el er ed et ek = rw (et, el, er, ed, ek)
+
+-- where the sum stands past M and the station delays, and what it answers where it goes no further: for `after_link`
+module _ {i : Inputs} {link halting : ℕ} (at : Linked i link halting) where
+  pub refused_by_m : refused13 i.largest ≡ true → Summed.Refused 13 ≡ summed i
+  unfolding first_of pick
+  refused_by_m over = answered_by i (at.left ∙ pick_yes _ _ over)
+
+  module _ (no13 : refused13 i.largest ≡ false) where
+    pub refused_by_station : stations_over i ≡ true → Summed.Refused 14 ≡ summed i
+    unfolding first_of pick
+    refused_by_station over = answered_by i (at.left ∙ (pick_no _ _ no13 ∙ pick_yes _ _ (pick_yes _ _ over)))
+
+    module _ (no_station : stations_over i ≡ false) where
+      pub past_stations : BeforePaths i
+      unfolding first_of
+      past_stations = record { left = at.left ∙ pick_no _ _ no13; largest = no13; stations = no_station }
+
+      pub refused_by_halt : largest_path < i.halt.0 → Summed.Refused 14 ≡ summed i
+      unfolding first_of pick
+      refused_by_halt over = answered_by i (past_stations.left ∙ pick_yes _ _ (pick_no _ _ no_station ∙ halt_alone i over))
+
+pub ruleset stages = (stations_within, refused_by_m, refused_by_station, refused_by_halt, past_stations)

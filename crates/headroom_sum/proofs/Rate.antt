@@ -7,15 +7,20 @@ use native.Mathlib.Omega.{arith}
 use borrow.Author.Tests.{eqb-true}
 use lib.Dec.{eqb}
 use Rattle.ground.specs.Pick.{pick}
+use Rattle.ground.proofs.Tests.{tests}
 use Rattle.units.specs.declared.Quanta.{Quanta}
 use Rattle.units.specs.Units.{bits_of_quanta, within64}
 use Rattle.units.specs.Counts.{quanta}
 use Rattle.headroom_sum.specs.Rates.{halt_limits, largest_rate, halt_limit, refused10, limit_answer}
 use Rattle.headroom_sum.specs.declared.HaltLimit.{HaltLimit}
+use Rattle.headroom_sum.proofs.Exactly.{limit_promised}
 
 -- the answer at a number that is known
 pub at_rate : (rate known : ℕ) → rate ≡ known → limit_answer known ≡ limit_answer rate
 at_rate rate known e = ap limit_answer (sym e)
+
+-- for `halt_limit`: its answer at each rate, and what it promises with it
+pub ruleset limited = (tests, at_rate, limit_promised)
 
 -- what a limit says of its rate
 pub record IsLimit (rate : ℕ) (limit : Quanta) : Type 0 where

@@ -66,7 +66,7 @@ pub enum HaltLimit {
 }
 
 // The limit of the halt delay at each rate in Mb/s: 6,144, 24,576 and 61,440 bits; 10 for a number that is no rate.
-#[tactic(auto, using(ground::proofs::Tests::tests, crate::proofs::Exactly::limit_promised, crate::proofs::Rate::at_rate), unfolding(ground::specs::Pick::pick, crate::specs::Rates::limit_answer, crate::specs::Rates::halt_limit))]
+#[tactic(auto, using(crate::proofs::Rate::limited), unfolding(ground::specs::Pick::pick, crate::specs::Rates::limit_answer, crate::specs::Rates::halt_limit))]
 pub fn halt_limit(rate: u64) -> HaltLimit
     ensures { (limit_number_of result ≡ first_of (limit_order rate)) × (result ≡ limit_answer rate) }
 {
@@ -79,7 +79,7 @@ pub fn halt_limit(rate: u64) -> HaltLimit
 }
 
 // The bit times that the link holds.
-#[tactic(auto, using(crate::proofs::Link::product_small, crate::proofs::Link::scaled_small, crate::proofs::Link::sum_small, crate::proofs::Link::link_small), unfolding(ground::specs::Pick::pick, crate::specs::Link::link_bits))]
+#[tactic(auto, using(crate::proofs::Link::sum_small, crate::proofs::Link::link_small), unfolding(crate::specs::Link::link_bits))]
 fn link_bits(metres: u64, rate: u64, percentage: u64) -> BitTimes
     requires { (metres ≤ largest_metres) × (rate ≤ largest_rate) × (least_percentage ≤ percentage) × (percentage ≤ largest_percentage) }
     ensures { (result.0 ≡ link_bits metres rate percentage) × (result.0 ≤ largest_path) }
@@ -131,7 +131,6 @@ fn total_bits(largest: u64, generation: BitTimes, request: BitTimes, data: BitTi
 }
 
 // 14 by the generation and the paths, then 19; else the sum.
-#[tactic(auto, using(crate::proofs::Exactly::answered_by, crate::proofs::Order::over_halt, crate::proofs::Order::within_halt, crate::proofs::Order::items_made, room_to_keep::proofs::Room::is_room, room_to_keep::proofs::Room::is_14), unfolding(ground::specs::Pick::pick, ground::specs::First::first_of))]
 fn after_paths(
     inputs: Inputs,
     link: BitTimes,
@@ -192,7 +191,7 @@ fn station_over(
 }
 
 // 13, then 14 by a station delay or by a halt that is above a path's limit by itself; then the paths fit and are tried whole.
-#[tactic(auto, using(crate::proofs::Exactly::answered_by, crate::proofs::Order::halt_alone, crate::proofs::Order::stations_within), unfolding(ground::specs::First::first_of, ground::specs::Pick::pick))]
+#[tactic(auto, using(crate::proofs::Order::stages))]
 fn after_link(inputs: Inputs, link: BitTimes, halting: BitTimes) -> Summed
     requires { Linked inputs link.0 halting.0 }
     ensures { result ≡ summed inputs }
@@ -242,7 +241,7 @@ fn cable_refusal(is_long: bool, is_outside: bool) -> u8
 }
 
 // The headroom sum. Refusals 10, 11, 12, 13, 14, 19: the first whose condition holds.
-#[tactic(auto, using(crate::proofs::Exactly::answered_by, crate::proofs::Exactly::promised, crate::proofs::Order::in_order, crate::proofs::Order::cable_refused, crate::proofs::Order::cable_passed, crate::proofs::Rate::is_limit, crate::proofs::Rate::is_no_rate, crate::proofs::Rate::rate_small, crate::proofs::Rate::limit_bits), unfolding(ground::specs::Pick::pick, ground::specs::First::first_of))]
+#[tactic(auto, using(crate::proofs::Exactly::promised))]
 pub fn sum(inputs: Inputs) -> Summed
     ensures { (sum_number_of result ≡ first_of (sum_order inputs)) × (result ≡ summed inputs) }
 {

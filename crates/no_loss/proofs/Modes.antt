@@ -91,6 +91,7 @@ module _ (c : Terms) (Asks : Frame → Type 0) where
   asking_ahead : (t base b_free stop left : ℕ) (last : Moment) (row : List Frame) → Asking c Asks last stop left row → InTime c.P t row →
       Follows pfc_length base row b_free → t ≤ stop
   unfolding oldest_end
+  asking_ahead t base b_free stop left last [] none p s = elim none [ ]
   asking_ahead t base b_free stop left last (f ∷ rest) (Asking.here a h u) p s = omega arith
   asking_ahead t base b_free stop left last (f ∷ rest) (Asking.later a) p s =
       asking_ahead t f.end b_free stop (lost c) last rest a (Rows.next_in_time pfc_length c.P t f.end rest b_free (omega arith) s.1) s.1
@@ -104,6 +105,7 @@ module _ (c : Terms) (Asks : Frame → Type 0) where
   -- the same behind older frames
   asking_started : (t stop left : ℕ) (last : Moment) (row : List Frame) (f : Frame) → Asks f → t + 84 ≤ f.end →
       ((e : ℕ) → EndedBy last e → f.end ≤ e + K c) → Asking c Asks last stop left row → Asking c Asks (at t) stop left (row ++ (f ∷ []))
+  asking_started t stop left last [] f a e h none = elim none [ ]
   asking_started t stop left last (g ∷ rest) f a e h (Asking.here b l u) = Asking.here b l (current_started t g.end last rest f a e h u)
   asking_started t stop left last (g ∷ rest) f a e h (Asking.later b) = Asking.later (asking_started t stop (lost c) last rest f a e h b)
 
@@ -115,6 +117,7 @@ module _ (c : Terms) (Asks : Frame → Type 0) where
 
   -- with less time to be left for losses
   asking_with_less : (left less stop : ℕ) (last : Moment) (row : List Frame) → less ≤ left → Asking c Asks last stop left row → Asking c Asks last stop less row
+  asking_with_less left less stop last [] h none = elim none [ ]
   asking_with_less left less stop last (f ∷ rest) h (Asking.here a l u) = Asking.here {left = less} a (omega arith) u
   asking_with_less left less stop last (f ∷ rest) h (Asking.later a) = Asking.later a
 

@@ -34,7 +34,7 @@ fn wide(octet: u8) -> u64
 }
 
 // A word of decimal digits as a number, up to what 64 bits hold. Any octets are answered.
-#[tactic(auto, using(crate::proofs::Numbers::no_number, crate::proofs::Reading::start, crate::proofs::Reading::too_low, crate::proofs::Reading::too_high, crate::proofs::Reading::too_large, crate::proofs::Reading::next, crate::proofs::Reading::ends, crate::proofs::Reading::some, crate::proofs::Reading::none), unfolding(ground::specs::Pick::pick))]
+#[tactic(auto, using(crate::proofs::Reading::reading))]
 pub fn number_of(word: &[u8]) -> Word
     ensures { (word_number_of result ≡ 0) × (result ≡ number_of word.now) }
 {
@@ -84,10 +84,10 @@ pub fn is_rows(word: &[u8]) -> bool
 }
 
 // The delays of the stack whose rows the digits after `rows:` name, counted from 1. A shorter word names no stack.
-#[tactic(auto, using(ground::proofs::Tests::tests, crate::proofs::Numbers::promised, crate::proofs::Reading::from_prefix), unfolding(ground::specs::Pick::pick, crate::specs::Words::rows_answer))]
+#[tactic(auto, using(crate::proofs::Numbers::promised, crate::proofs::Reading::too_short, crate::proofs::Reading::from_prefix))]
 pub fn delays_of_rows(word: &[u8]) -> Stacked
     ensures { (stack_number_of result ≡ first_of (rows_order word.now)) × (result ≡ rows_answer word.now)
-        × (word.now ≡ word.now) }
+        × (word.exit.now ≡ word.now) }
 {
     if word.len() < PREFIX {
         return Stacked::Unknown;
