@@ -1,38 +1,32 @@
 -- From the plain values that the code tests and stores to what a step answers on a memory, a law a kind. Assumes nothing.
-use Prim.Native.Nat.{ℕ, suc, zero, ◌+◌, ◌*◌, ◌-◌, ◌/◌, ◌<◌, ◌≤◌, ◌^◌}
+use Prim.Native.Nat.{ℕ, ◌+◌, ◌<◌}
 use mathlib.Core.Path.{◌≡◌, refl, sym, ap, subst, ◌∙◌}
-use mathlib.Core.Bool.{Bool, true, false, false≢true}
-use mathlib.Core.List.{List, [], ◌∷◌, ◌++◌}
+use mathlib.Core.Bool.{Bool, true, false}
+use mathlib.Core.List.{List, ◌∷◌}
 use native.Mathlib.Omega.{arith}
-use lib.Dec.{ltb, leb, eqb}
-use lib.ListN.{length, get_or, take, set}
+use lib.Dec.{ltb, eqb}
+use lib.ListN.{take}
 use lib.Seq.{get_or-take}
 use borrow.Author.Tests.{eq-eqb, ne_eqb, eqb-true, eqb-false}
 use Rattle.ground.specs.Pick.{pick}
 use Rattle.ground.proofs.Pick.{pick_yes, pick_no}
 use Rattle.octets.specs.Numbers.{octet_at, word_at}
-use Rattle.units.specs.Units.{within64}
-use Rattle.moments.specs.Moments.{at, is_never, is_ahead, past_due}
+use Rattle.moments.specs.Moments.{is_never, is_ahead, past_due}
 use Rattle.moments.specs.declared.Moment.{Moment}
-use Rattle.moments.specs.declared.Moment.TheVariants.{Never, At}
-use Rattle.frame_build.specs.Build.{built_frame}
 use Rattle.frame.specs.Read.{verdict}
-use Rattle.frame.specs.declared.Verdict.{Verdict}
-use Rattle.head.specs.declared.Head.{Head}
 use Rattle.head.specs.Timers.{is_paused}
 use Rattle.units.specs.Units.{wire_time, pfc_time}
-use Rattle.marks.specs.declared.Marks.{Marks}
 use Rattle.recorder.specs.declared.Watch.{Watch}
-use Rattle.marks.specs.Marks.{started_at, times_for}
+use Rattle.marks.specs.Marks.{started_at}
 use Rattle.recorder.specs.Watching.{Recorder, recorder_of, arrived_at, taken_at, taking_refusal}
 use Rattle.records.specs.declared.Record.{Record}
-use Rattle.records.specs.declared.Record.TheVariants.{Wait, StartData, Arrive, StartOther, StartPfc, TakeEffect, TakeOctets, Refused}
-use Rattle.decisions.specs.Chains.{length_outside, wait_number, start_data_number, arrive_number, start_other_number, start_pfc_number, most_under_way}
-use Rattle.rows.specs.Rows.{Lane, seen, put, held_in, oldest_in}
-use Rattle.bench_meaning.specs.State.{Frame, Direction, State, data_octets, priority_of, length_of}
-use Rattle.bench_meaning.specs.Step.{after, address_a, pfc_now, due_then, effect_of, oldest_end, overrun, refusal_of, next_of}
-use Rattle.bench_meaning.specs.Step.{waited, data_started, arrived, other_started, pfc_started, took_effect, octets_taken}
-use Rattle.bench_memory.specs.Memory.{Memory, memory_of, view_of, holding, data_width, pfc_width, LaneLent, Lent}
+use Rattle.records.specs.declared.Record.TheVariants.{StartData, Arrive, StartOther, StartPfc, TakeEffect, TakeOctets, Refused}
+use Rattle.decisions.specs.Chains.{length_outside, start_data_number, arrive_number, start_other_number, start_pfc_number}
+use Rattle.rows.specs.Rows.{Lane, seen, put}
+use Rattle.bench_meaning.specs.State.{Frame, State, data_octets, priority_of, length_of}
+use Rattle.bench_meaning.specs.Step.{after, address_a, pfc_now, effect_of, refusal_of, next_of}
+use Rattle.bench_meaning.specs.Step.{data_started, arrived, other_started, pfc_started, took_effect, octets_taken}
+use Rattle.bench_memory.specs.Memory.{Memory, memory_of, view_of, holding, data_width, pfc_width, Lent}
 use Rattle.bench_memory.specs.Answers.{memory_for, Answers}
 use Rattle.bench_state.specs.Answered.{ended_in, outcome_of, if_accepted, answered}
 use Rattle.bench_state.specs.declared.Bench.{Bench}

@@ -1,19 +1,17 @@
 -- From what each kind's function answers on values and arrays to what a step answers on a memory, a law a kind. Each assumes that the
 -- arrays have their places.
-use Prim.Native.Nat.{ℕ, ◌+◌, ◌*◌, ◌-◌, ◌<◌, ◌≤◌}
-use mathlib.Core.Path.{◌≡◌, refl, sym, ap, ◌∙◌}
+use Prim.Native.Nat.{ℕ, ◌-◌}
+use mathlib.Core.Path.{◌≡◌, refl, ap, ◌∙◌}
 use mathlib.Core.Bool.{Bool, true, false}
 use mathlib.Core.List.{List}
 use native.Mathlib.Omega.{arith}
 use lib.Dec.{eqb}
-use lib.ListN.{length, set}
 use Rattle.ground.specs.Pick.{pick}
 use Rattle.recorder.specs.declared.Watch.{Watch}
-use Rattle.recorder.specs.Watching.{Recorder, recorder_of, taken_with, taken_at, limits_of, refusal_with, leaves_with, taking_refusal, taking_leaves}
+use Rattle.recorder.specs.Watching.{Recorder, recorder_of, taken_at, leaves_with, taking_refusal, taking_leaves}
 use Rattle.records.specs.declared.Record.TheVariants.{StartData, Arrive, StartOther, StartPfc, TakeEffect, TakeOctets}
-use Rattle.rows.specs.Rows.{written, shifted}
 use Rattle.bench_meaning.specs.State.{data_octets}
-use Rattle.bench_meaning.specs.Step.{pfc_now, refusal_of}
+use Rattle.bench_meaning.specs.Step.{pfc_now}
 use Rattle.bench_state.specs.Answered.{ended_in, if_accepted, answered, said, Pushed, Left}
 use Rattle.bench_state.specs.declared.Bench.{Bench}
 use Rattle.bench_state.specs.declared.Stepped.{Stepped}
@@ -25,7 +23,7 @@ use Rattle.starting.proofs.Room.{data_room}
 use Rattle.arriving.specs.Arriving.{brought_by, arrival_leaves, taking_number, taking_by, taking_marks}
 use Rattle.taking_effect.specs.Effect.{effect_leaves}
 use Rattle.bench_state.proofs.Ended.{ended_some}
-use Rattle.bench_memory.specs.Memory.{Memory, memory_of, data_width, pfc_width, Lent, view_of, holding}
+use Rattle.bench_memory.specs.Memory.{Memory, memory_of, data_width, pfc_width, Lent, view_of}
 use Rattle.bench_memory.specs.Answers.{Answers}
 use Rattle.bench_memory.proofs.Answered as answered'
 use Rattle.bench_memory.proofs.Answered.{answers_by}

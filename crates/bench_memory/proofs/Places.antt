@@ -16,8 +16,8 @@ use Rattle.rows.proofs.Held.{Wide, slots_length}
 use Rattle.rows.proofs.Lanes as lanes
 use Rattle.rows.proofs.Over.{over_length}
 use Rattle.rows.proofs.Lanes.{Fits}
-use Rattle.bench_meaning.specs.State.{Frame, Direction, State}
-use Rattle.bench_memory.specs.Memory.{Memory, data_width, pfc_width, fits_in, lane_fits, fitting, LaneLent, Lent, view_of, holding}
+use Rattle.bench_meaning.specs.State.{Frame, Direction}
+use Rattle.bench_memory.specs.Memory.{Memory, data_width, pfc_width, fits_in, lane_fits, fitting, LaneLent, Lent}
 
 -- a frame as it stands in a lane's first place
 abbrev pub oldest_of : ℕ → Lane → Frame

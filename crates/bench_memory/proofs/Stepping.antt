@@ -1,11 +1,9 @@
 -- Steps in a row: a memory with its places keeps them, and after an accepted record it holds the next state. Assumes nothing.
-use Prim.Native.Nat.{ℕ, ◌<◌, ◌≤◌}
+use Prim.Native.Nat.{ℕ}
 use mathlib.Core.Path.{◌≡◌, refl, sym, ap, subst, ◌∙◌}
 use mathlib.Core.Bool.{Bool, true, false}
 use mathlib.Core.List.{List, [], ◌∷◌}
-use native.Mathlib.Omega.{arith}
 use lib.Dec.{eqb}
-use lib.ListN.{length}
 use borrow.Author.Tests.{eq-eqb, eqb-true}
 use Rattle.ground.specs.Pick.{pick}
 use Rattle.ground.proofs.Pick.{pick_yes, pick_no}
@@ -13,7 +11,7 @@ use Rattle.recorder.specs.declared.Watch.{Watch}
 use Rattle.records.specs.Records.{decoded}
 use Rattle.records.specs.declared.Record.{Record}
 use Rattle.records.specs.declared.Record.TheVariants.{Wait, StartData, Arrive, StartOther, StartPfc, TakeEffect, TakeOctets, Refused}
-use Rattle.bench_meaning.specs.State.{Frame, Direction, State}
+use Rattle.bench_meaning.specs.State.{Frame, State}
 use Rattle.bench_meaning.specs.Step.{refusal_of, next_of, waited, data_started, arrived, other_started, pfc_started, took_effect, octets_taken}
 use Rattle.bench_state.specs.Answered.{number_of, outcome_of}
 use Rattle.bench_state.specs.declared.Outcome.{Outcome}

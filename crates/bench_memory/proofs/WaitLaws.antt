@@ -1,6 +1,6 @@
 -- A wait: from the walk that the code takes and the bounds that it tries to what a step answers. It assumes that the arrays have their
 -- places.
-use Prim.Native.Nat.{ℕ, ◌+◌, ◌<◌, ◌≤◌, ◌^◌}
+use Prim.Native.Nat.{ℕ, ◌+◌, ◌≤◌, ◌^◌}
 use mathlib.Core.Path.{◌≡◌, refl, sym, ap, ◌∙◌}
 use mathlib.Core.Bool.{Bool, true, false}
 use mathlib.Core.List.{List}
@@ -9,19 +9,16 @@ use lib.Dec.{ltb}
 use borrow.Author.Tests.{ltb-true, ltb-false, lt-ltb, le-ltb}
 use Rattle.ground.specs.First.{first_of}
 use Rattle.ground.specs.Pick.{pick}
-use Rattle.ground.proofs.Pick.{pick_yes, pick_no}
+use Rattle.ground.proofs.Pick.{pick_yes}
 use Rattle.units.specs.Units.{within64}
-use Rattle.moments.specs.Moments.{past_due}
-use Rattle.moments.specs.declared.Moment.{Moment}
 use Rattle.recorder.specs.declared.Watch.{Watch}
 use Rattle.marks.specs.Marks.{refresh_of}
 use Rattle.records.specs.declared.Record.TheVariants.{Wait}
 use Rattle.decisions.specs.Chains.{wait_number, last_moment}
-use Rattle.rows.specs.Rows.{seen, oldest_in}
-use Rattle.walk.specs.Walk.{walked_by, walked_on}
+use Rattle.rows.specs.Rows.{seen}
+use Rattle.walk.specs.Walk.{walked_on}
 use Rattle.walk.specs.declared.Walk.{Walk}
-use Rattle.bench_meaning.specs.State.{State}
-use Rattle.bench_meaning.specs.Step.{due_then, oldest_end, overrun, refusal_of, next_of, waited}
+use Rattle.bench_meaning.specs.Step.{due_then, overrun, refusal_of, next_of, waited}
 use Rattle.bench_memory.specs.Memory.{Memory, memory_of, view_of, holding, data_width, pfc_width, Lent}
 use Rattle.bench_memory.specs.Answers.{Answers}
 use Rattle.waiting.specs.Waiting.{walk_from, after_walk, overrun_by, late_after, waited_by}

@@ -1,5 +1,5 @@
 -- How the code holds a state: what goes by value, the numbers of the rooms, and for each direction the ends and the slots of its frames.
-use Rattle.std.specs.Prelude.{ℕ, ◌*◌, ◌/◌, ◌≤◌, Bool, true, false, List, length, ltb, leb}
+use Rattle.std.specs.Prelude.{ℕ, ◌*◌, ◌/◌, ◌≤◌, Bool, false, List, length, ltb, leb}
 use Rattle.ground.specs.Pick.{pick}
 use Rattle.head.specs.declared.Head.{Head}
 use Rattle.marks.specs.declared.Marks.{Marks}

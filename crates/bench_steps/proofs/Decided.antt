@@ -1,7 +1,5 @@
 -- Any two answers that the contract of the public step permits for the same call are equal, and so are the arrays lent to it. It is
 -- stated about the contract itself, and assumes nothing.
-use Prim.Native.Nat.{ℕ}
-use mathlib.Core.List.{List}
 use mathlib.Core.Path.{◌≡◌, sym, ap, ◌∙◌}
 use contract.Lifetimes.{Lfts}
 use borrow.Fn.Kinds.{Dens, res_t, ended_of}

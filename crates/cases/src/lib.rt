@@ -1,3 +1,2 @@
 // Document 01's cases marked P, in one table under one theorem. No functions.
 #![tactic(auto)]
-

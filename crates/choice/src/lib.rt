@@ -110,7 +110,7 @@ fn may_go(fronts: [u8; 8], paused: [bool; 8], class: usize) -> bool
 }
 
 // The highest class that may go, or none.
-#[tactic(auto, using(crate::proofs::Highest::highest_below, crate::proofs::Highest::highest_here, crate::proofs::Highest::highest_none), unfolding(ground::specs::Pick::pick))]
+#[tactic(auto, using(crate::proofs::Highest::highest_below, crate::proofs::Highest::highest_none))]
 fn highest_free(fronts: [u8; 8], paused: [bool; 8]) -> Choice
     ensures { result ≡ highest (may_go fronts paused) 8 }
 {

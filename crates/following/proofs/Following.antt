@@ -6,10 +6,9 @@ use mathlib.Core.Bool.{Bool, true, false}
 use mathlib.Core.List.{List, [], ◌∷◌}
 use native.Mathlib.Omega.{arith}
 use native.Mathlib.Nat.{add-zero, add_assoc}
-use lib.Dec.{ltb, eqb}
 use lib.ListN.{length, get_or, take, drop, length-drop}
 use lib.Seq.{drop-drop, get_or-drop}
-use borrow.Author.Tests.{eq-eqb, ne_eqb, ltb-false, eqb-true, eqb-false}
+use borrow.Author.Tests.{eq-eqb, ne_eqb}
 use Rattle.ground.specs.Pick.{pick}
 use Rattle.ground.specs.Eight.{eight}
 use Rattle.ground.proofs.Parts.{take_rest}
@@ -24,7 +23,7 @@ use Rattle.bench_meaning.specs.State.{State, empty, idle}
 use Rattle.bench_meaning.specs.Step.{refusal_of, next_of}
 use Rattle.bench_meaning.specs.Run.{report_of, run_from, follow_of}
 use Rattle.bench_meaning.specs.declared.Report.{Report}
-use Rattle.bench_memory.specs.Memory.{Memory, memory_of, view_of, holding, fitting, Lent}
+use Rattle.bench_memory.specs.Memory.{Memory, memory_of, view_of, fitting, Lent}
 use Rattle.bench_memory.specs.Answers.{memory_for, step_number, step_memory}
 use Rattle.bench_state.specs.declared.Bench.{Bench}
 use Rattle.bench_memory.proofs.Stepping.{number_is, step_view}

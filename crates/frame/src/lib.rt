@@ -191,7 +191,7 @@ fn part_start(found: Verdict, size: usize) -> usize
 }
 
 // The part of a data frame from octet 12 on, the caller's own octets; of any other frame an empty part.
-#[tactic(auto, using(ground::proofs::Parts::take_rest, crate::proofs::Reading::part_from, crate::proofs::Reading::start_within), unfolding(ground::specs::Pick::pick))]
+#[tactic(auto, using(ground::proofs::Parts::take_rest, crate::proofs::Reading::part_from, crate::proofs::Reading::start_within))]
 pub fn part(frame: &[u8], largest: u64, own: [u8; 6]) -> &[u8]
     ensures { result.now ≡ part_of frame.now largest own }
 {

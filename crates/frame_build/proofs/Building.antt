@@ -8,11 +8,11 @@ use Rattle.ground.specs.Pick.{pick}
 use Rattle.ground.specs.First.{GivenExactly, are_apart, first_of, is_among}
 use Rattle.ground.proofs.First.{given_exactly}
 use Rattle.ground.proofs.Pick.{pick_yes, pick_no}
-use mathlib.Core.List.{List, [], ◌∷◌, ◌++◌, append_assoc, append-nil}
+use mathlib.Core.List.{List, [], ◌∷◌, ◌++◌, append_assoc}
 use native.Mathlib.Omega.{arith}
-use lib.ListN.{length, take, drop, get_or, replicate}
-use lib.Seq.{take_all, take_at, drop_at}
-use borrow.Rule.Slice.PartMut.{mid_of, put_mid}
+use lib.ListN.{length, drop, get_or}
+use lib.Seq.{take_at, drop_at}
+use borrow.Rule.Slice.PartMut.{put_mid}
 use Rattle.octets.specs.Numbers.{word_octets}
 use Rattle.frame_build.specs.Build.{order_by, building_order, built_by, build_number_of, build_verdict, all_time_octets, buffer_for, buffer_after}
 use Rattle.frame_build.specs.declared.Built.{Built}

@@ -1,12 +1,12 @@
 -- The number that an order of refusals gives is given exactly. It assumes that the order's numbers are no two the same and none is 0.
-use Prim.Native.Nat.{ℕ, zero, suc, ◌+◌, ◌<◌, ◌≤◌}
-use mathlib.Core.Path.{◌≡◌, refl, sym, ap, subst, ◌∙◌}
+use Prim.Native.Nat.{ℕ, zero, suc, ◌<◌}
+use mathlib.Core.Path.{◌≡◌, refl, sym, subst, ◌∙◌}
 use mathlib.Core.Bool.{Bool, true, false, false≢true}
 use mathlib.Core.List.{List, [], ◌∷◌}
 use native.Mathlib.Omega.{arith}
 use lib.Dec.{eqb}
 use lib.ListN.{length}
-use borrow.Author.Tests.{eqb-true, eqb-false, eq-eqb}
+use borrow.Author.Tests.{eqb-false, eq-eqb}
 use Rattle.ground.specs.Pick.{pick}
 use Rattle.ground.specs.First.{Refusal, first_of, test_at, number_at, Due, GivenExactly, is_among, are_apart}
 use Rattle.ground.proofs.Pick.{pick_yes, pick_no}

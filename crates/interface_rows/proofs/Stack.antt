@@ -16,6 +16,7 @@ use Rattle.interface_rows.specs.Stack.{index_from, bits_at, all_known, stack_bit
 use Rattle.interface_rows.specs.declared.Row.{Row}
 use Rattle.interface_rows.specs.declared.RowAt.{RowAt}
 use Rattle.interface_rows.specs.declared.Stacked.{Stacked}
+use Rattle.interface_rows.proofs.Numbers.{promised}
 use Rattle.interface_rows.proofs.Rows.{both, row_even, found, missing}
 
 -- the rows that octets name
@@ -100,3 +101,6 @@ stack_even [] e = refl
 stack_even (index ∷ rest) e =
     let h = both (is_row index) (all_known rest) e
     in omega (arith, row_even index (ltb-true index (length table_n1) h.0), stack_even rest h.1)
+
+-- for `stack_delays`: what holds at each row, and what each end promises
+pub ruleset stacking = (promised, start, next, stops, ends)

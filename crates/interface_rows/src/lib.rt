@@ -121,7 +121,7 @@ fn halves(whole: BitTimes) -> Stacked
 // The transmit and receive delay of a station whose interface is a stack of the table's rows, in any order and as often as they stand
 // in it. Each octet names a row, counted from first. Any octets are answered: one that names no row gives Unknown, a delay above
 // 1,048,576 gives 14.
-#[tactic(auto, using(crate::proofs::Numbers::promised, crate::proofs::Stack::start, crate::proofs::Stack::next, crate::proofs::Stack::stops, crate::proofs::Stack::ends), unfolding(ground::specs::Pick::pick))]
+#[tactic(auto, using(crate::proofs::Stack::stacking), unfolding(ground::specs::Pick::pick))]
 pub fn stack_delays(first: u8, rows: &[u8]) -> Stacked
     ensures { (stack_number_of result ≡ first_of (stack_order (map (index_from first) rows.now)))
         × (result ≡ stack_answer (map (index_from first) rows.now)) }

@@ -6,7 +6,7 @@ use native.Mathlib.Omega.{arith}
 use lib.Dec.{ltb}
 use borrow.Author.Tests.{lt-ltb, le-ltb, ltb-true, ltb-false}
 use Rattle.units.specs.Units.{within64}
-use Rattle.moments.specs.Moments.{at, is_ahead, past_due}
+use Rattle.moments.specs.Moments.{at, past_due}
 use Rattle.moments.specs.declared.Moment.{Moment}
 use Rattle.moments.specs.declared.Moment.TheVariants.{Never, At}
 

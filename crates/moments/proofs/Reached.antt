@@ -1,6 +1,6 @@
 -- What the tests of a moment say: whether it has been reached, is past by more than a bound, or is there at all. Assumes nothing.
 use Prim.Native.Nat.{ℕ, ◌+◌, ◌≤◌}
-use mathlib.Core.Bool.{true, false, false≢true}
+use mathlib.Core.Bool.{false, false≢true}
 use mathlib.Core.Path.{◌≡◌, refl, sym, ap}
 use borrow.Author.Tests.{ltb-false, le-ltb}
 use Rattle.moments.specs.Moments.{at, is_never, is_ahead, past_due}

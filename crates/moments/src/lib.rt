@@ -36,7 +36,7 @@ pub fn is_ahead(moment: Moment, clock: OctetTimes) -> bool
 }
 
 // Whether the clock is past a moment, if there is one, by more than a bound.
-#[tactic(auto, using(crate::proofs::Bounds::past_since, crate::proofs::Bounds::past_not_yet), unfolding(ground::specs::Pick::pick, crate::specs::Moments::past_due))]
+#[tactic(auto, unfolding(crate::specs::Moments::past_due))]
 pub fn past(moment: Moment, bound: OctetTimes, clock: OctetTimes) -> bool
     ensures { result ≡ past_due moment bound.0 clock.0 }
 {
@@ -81,7 +81,7 @@ pub fn refresh_from(last: Moment, refresh: OctetTimes) -> Moment
 }
 
 // Since when a PFC frame is due once the clock stands here, where the refresh makes one due from a moment on.
-#[tactic(auto, using(crate::proofs::DueLaws::due_at_refresh, crate::proofs::DueLaws::not_due_before), unfolding(ground::specs::Pick::pick, crate::specs::Moments::due_by))]
+#[tactic(auto, unfolding(ground::specs::Pick::pick, crate::specs::Moments::due_by))]
 pub fn due_by(refresh: Moment, clock: OctetTimes, due: Moment) -> Moment
     ensures { result ≡ due_by refresh clock.0 due }
 {

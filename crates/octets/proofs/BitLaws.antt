@@ -1,5 +1,5 @@
 -- Laws of an octet's bits and of eight marks. Each assumes what it states.
-use Prim.Native.Nat.{ℕ, ◌<◌, ◌≤◌, ◌^◌, ◌/◌, ◌%◌}
+use Prim.Native.Nat.{ℕ, ◌<◌, ◌≤◌, ◌^◌, ◌%◌}
 use mathlib.Core.Path.{◌≡◌, refl, sym, ap, ◌∙◌}
 use mathlib.Core.Bool.{Bool, true, false, ◌||◌}
 use mathlib.Core.List.{List, [], ◌∷◌}

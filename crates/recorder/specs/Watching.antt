@@ -9,7 +9,6 @@ use Rattle.rooms.specs.Room.{limits_for, arrived_in, taken_from, empty_room, roo
 use Rattle.rooms.specs.declared.Room.{Room}
 use Rattle.rooms.specs.declared.Limits.{Limits}
 use Rattle.settings.specs.Settings.{is_enabled, room_of}
-use Rattle.recorder.specs.declared.Taking.{Taking}
 use Rattle.recorder.specs.declared.Watch.{Watch}
 
 -- station B: the numbers of each priority's room, and its marks

@@ -102,7 +102,7 @@ fn refusal(kind: u8, size: usize, whole: usize) -> u8
 }
 
 // What the octets of a record after the settings ask; octets past the record are not looked at.
-#[tactic(auto, using(crate::proofs::Decoding::refusal_by, crate::proofs::Decoding::both, crate::proofs::Decoding::refused_is, crate::proofs::Decoding::asked_is), unfolding(ground::specs::Pick::pick))]
+#[tactic(auto, using(crate::proofs::Decoding::both, crate::proofs::Decoding::refused_is, crate::proofs::Decoding::asked_is))]
 pub fn decode(octets: &[u8]) -> Record
     ensures { (record_number_of result ≡ octets_refusal octets.now) × (result ≡ decoded octets.now) }
 {

@@ -15,7 +15,7 @@ use Rattle.limits.specs.Limits.{least_m, largest_m, largest_delay, largest_path,
 use Rattle.room_to_keep.specs.Keep.{one_way, refused14, keep_order, keep_refusal, kept, keeping, keeping_of, keep_number_of}
 use Rattle.room_to_keep.specs.declared.Kept.{Kept}
 use Rattle.room_to_keep.specs.declared.Keeping.{Keeping}
-use Rattle.room_to_keep.proofs.Exactly.{keep_number}
+use Rattle.room_to_keep.proofs.Exactly.{keep_number, promised, in_order, refused_by, kept_by}
 
 -- the bounds behind a room
 pub record Within (largest generation request «data» : ℕ) : Type 0 where
@@ -89,3 +89,6 @@ module _ (largest generation request «data» : ℕ) where
       (record { generation = g; wire = w; request = p; «data» = d; one_way = o; headroom = h })
       (kept largest generation request «data»)
   room_made g w p d o h eg ew ep ed eo eh = rw (eh, eg, ew, ep, ed, eo)
+
+-- for `keep`: the order of its refusals, and what either answer promises
+pub ruleset answers = (in_order, refused_by, kept_by, promised, not_refused, within)

@@ -105,7 +105,7 @@ fn first_of(is_outside: bool, is_over: bool) -> u8
 }
 
 // What is kept for a largest frame M, a generation delay and the bits of the two paths. Refusals 13 and 14: the first that holds.
-#[tactic(auto, using(crate::proofs::Exactly::in_order, crate::proofs::Exactly::refused_by, crate::proofs::Exactly::kept_by, crate::proofs::Exactly::promised, crate::proofs::Room::not_refused, crate::proofs::Room::within), unfolding(ground::specs::Pick::pick))]
+#[tactic(auto, using(crate::proofs::Room::answers), unfolding(ground::specs::Pick::pick))]
 pub fn keep(largest: u64, generation: BitTimes, request: BitTimes, data: BitTimes) -> Keeping
     ensures { (keep_number_of result ≡ first_of (keep_order largest generation.0 request.0 «data».0))
         × (result ≡ keeping largest generation.0 request.0 «data».0) }

@@ -2,14 +2,13 @@
 use Prim.Native.Nat.{ℕ, ◌+◌, ◌*◌, ◌-◌, ◌<◌, ◌≤◌, min}
 use mathlib.Core.Bool.{Bool, true, false}
 use mathlib.Core.Path.{◌≡◌, refl, sym, ap, ◌∙◌}
-use mathlib.Core.List.{List, [], ◌∷◌, ◌++◌, append-nil}
+use mathlib.Core.List.{List, [], ◌∷◌, ◌++◌}
 use native.Mathlib.Omega.{arith}
 use native.Mathlib.Nat.{zero-mul, min-eq_left, min-eq_right}
-use lib.ListN.{length, take, drop, length-append, length-take, length-drop, drop_of_length-le}
-use lib.Seq.{drop-drop, take-length}
+use lib.ListN.{length, take, drop, length-append, length-take, length-drop}
+use lib.Seq.{drop-drop}
 use lib.Dec.{leb}
 use borrow.Author.Tests.{le-leb, lt-leb, leb-true, leb-false}
-use Rattle.ground.proofs.Parts.{take_rest}
 use Rattle.ground.proofs.Pick.{pick_yes, pick_no}
 use Rattle.rows.specs.Rows.{written}
 

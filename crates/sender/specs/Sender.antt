@@ -1,5 +1,5 @@
 -- Document 01, the sender at B: "is lent a control frame and a data frame and hands back the one to go".
-use Rattle.std.specs.Prelude.{ℕ, Bool, true, false, List, [], length, take, ltb}
+use Rattle.std.specs.Prelude.{ℕ, Bool, List, [], length, take, ltb}
 use Rattle.ground.specs.Pick.{pick}
 
 -- the octets of a control frame that go; "The FCS is not present"

@@ -1,6 +1,6 @@
 -- What the settings' refusals and their acceptance mean: each number is given exactly when its condition holds and none earlier does,
 -- and settings are accepted exactly when they meet every bound. Assumes nothing.
-use Prim.Native.Nat.{ℕ, ◌<◌, ◌≤◌}
+use Prim.Native.Nat.{ℕ, ◌<◌}
 use mathlib.Core.Path.{◌≡◌, refl, sym, ap, ◌∙◌}
 use mathlib.Core.Bool.{Bool, true, false, false≢true, ◌&&◌}
 use native.Mathlib.Omega.{arith}
@@ -8,7 +8,7 @@ use lib.Dec.{ltb, eqb}
 use borrow.Author.Tests.{ltb-true, ltb-false, le-ltb, eqb-true}
 use Rattle.ground.specs.Pick.{pick}
 use Rattle.ground.specs.First.{first_of, test_at, GivenExactly, is_among, are_apart}
-use Rattle.ground.specs.Eight.{is_set, some}
+use Rattle.ground.specs.Eight.{is_set}
 use Rattle.ground.proofs.Pick.{pick_no}
 use Rattle.ground.proofs.First.{first_given, given_exactly}
 use Rattle.ground.proofs.Eight.{some_here, some_none}
@@ -16,7 +16,7 @@ use Rattle.limits.specs.Limits.{least_m, delay_over, path_over}
 use Rattle.room_to_keep.specs.Keep.{kept}
 use Rattle.room_to_keep.specs.declared.Kept.{Kept}
 use Rattle.room_to_keep.proofs.Room.{neither}
-use Rattle.settings.specs.Settings.{is_enabled, room_of, some_enabled, some_room_above, least_room, least_refresh, largest_room}
+use Rattle.settings.specs.Settings.{is_enabled, room_of, some_enabled, least_room, least_refresh, largest_room}
 use Rattle.settings.specs.Settings.{settings_order, settings_refusal, settling, settling_number_of}
 use Rattle.settings.specs.Accepted.{Acceptable}
 use Rattle.settings.specs.declared.Settings.{Settings}

@@ -1,6 +1,6 @@
 -- What only stands between functions: it is proved and used inside this crate, and no reader need believe it.
-use Rattle.std.specs.Prelude.{ℕ, ◌+◌, ◌^◌, ◌≤◌, ◌≡◌, List, [], ◌∷◌}
-use Rattle.ground.specs.First.{Refusal, ◌gives◌, first_of}
+use Rattle.std.specs.Prelude.{ℕ, ◌+◌, ◌^◌, ◌≤◌, ◌≡◌, [], ◌∷◌}
+use Rattle.ground.specs.First.{◌gives◌, first_of}
 use Rattle.room_to_keep.specs.declared.Kept.{Kept}
 use Rattle.settings.specs.Settings.{one_way_of, headroom_of, refused15, refused16, refused17, refused18}
 use Rattle.settings.specs.declared.Settings.{Settings}

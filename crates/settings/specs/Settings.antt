@@ -6,7 +6,6 @@ use Rattle.ground.specs.Eight.{eight, is_set, some}
 use Rattle.units.specs.Units.{quantum, octets_of_quanta}
 use Rattle.limits.specs.Limits.{refused13}
 use Rattle.room_to_keep.specs.Keep.{one_way, headroom, refused14, kept}
-use Rattle.room_to_keep.specs.declared.Kept.{Kept}
 use Rattle.settings.specs.declared.Settings.{Settings}
 use Rattle.settings.specs.declared.Settling.{Settling}
 use Rattle.settings.specs.declared.Settling.TheVariants.{Accepted, Refused}

@@ -1,5 +1,5 @@
 -- A class that may go is the highest of those that are left. Assumes nothing.
-use Rattle.std.proofs.Common.{◌≡◌, ℕ, ◌-◌, Bool, sym, ◌∙◌, arith}
+use Rattle.std.proofs.Common.{ℕ, ◌-◌, Bool, sym, ◌∙◌, arith}
 use Rattle.choice.specs.Choice.{may_go}
 use Rattle.choice.proofs.Highest.{highest_here}
 use Rattle.choice.proofs.highest_free.Goals as goal

@@ -18,14 +18,14 @@ returns c =
     let a = c.args in
     let number = c.refused-number in
     let made =
-        c.frame_octets-made.ensures
-        ∙ ap₂ (λ (lead times : List ℕ). lead ++ times ++ replicate 26 0) c.lead_octets.ensures c.time_octets.ensures in
+    c.frame_octets-made.ensures
+    ∙ ap₂ (λ (lead times : List ℕ). lead ++ times ++ replicate 26 0) c.lead_octets.ensures c.time_octets.ensures in
     build_by a.source a.e a.times a.buffer.now _ number.ensures (sym (built_written number.result c.if-number-ne0.false))
     (c.put.ensures ∙ ap (λ (octets : List ℕ). put_before octets a.buffer.now) made)
 
 pub put-requires : goal.put-requires
 put-requires c =
     let made =
-        c.frame_octets-made.ensures
-        ∙ ap₂ (λ (lead times : List ℕ). lead ++ times ++ replicate 26 0) c.lead_octets.ensures c.time_octets.ensures in
+    c.frame_octets-made.ensures
+    ∙ ap₂ (λ (lead times : List ℕ). lead ++ times ++ replicate 26 0) c.lead_octets.ensures c.time_octets.ensures in
     omega (arith, ap length made, has_room _ _ (sym c.refused-number.ensures ∙ c.if-number-ne0.false))

@@ -1,5 +1,4 @@
 -- `Stacking` goes on by one row. Assumes nothing.
-use Rattle.std.proofs.Common.{sym, ◌∙◌}
 use Rattle.interface_rows.proofs.Stack.{next}
 use Rattle.interface_rows.proofs.stack_delays.Goals as goal
 

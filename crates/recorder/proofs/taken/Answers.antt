@@ -1,5 +1,5 @@
 -- The refusals of a taking in their order, and what leaves the room. Assumes nothing.
-use Rattle.std.proofs.Common.{sym, ◌∙◌}
+use Rattle.std.proofs.Common.{sym}
 use borrow.Author.Tests.{le-ltb, lt-ltb}
 use Rattle.rooms.specs.declared.Room.{Room}
 use Rattle.rooms.specs.Room.{taken_from}

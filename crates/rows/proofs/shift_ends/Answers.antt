@@ -1,5 +1,5 @@
 -- One more place moves up; at the end as many have as are there. Assumes nothing.
-use Rattle.std.proofs.Common.{◌≡◌, ℕ, ◌+◌, ◌*◌, ◌-◌, min, List, length, get_or, set, ap, ◌∙◌, arith, length-set}
+use Rattle.std.proofs.Common.{◌≡◌, ℕ, ◌+◌, ◌-◌, min, List, length, get_or, set, ap, ◌∙◌, arith, length-set}
 use Rattle.rows.proofs.Shifting.{shift_more, shift_done}
 use Rattle.rows.proofs.shift_ends.Goals as goal
 
