@@ -65,10 +65,15 @@ fn report_on(page: Page, report: Report) -> Page {
 }
 
 // Runs the records and prints the report, then says what its refusal means.
-fn answer(input: &[u8]) {
+fn answer(rt: &HostRuntime, input: &[u8]) {
     let report = bench_run::run(input);
-    if console::output::write_page(b"bench", report_on(page::blank(), report)) {
-        meaning::tell(report.refusal, report.at, input);
+    if console::output::write_page(
+        rt,
+        &mut rt.stdout(),
+        b"bench",
+        report_on(page::blank(), report),
+    ) {
+        meaning::tell(rt, report.refusal, report.at, input);
     }
 }
 
@@ -77,11 +82,11 @@ fn buffer() -> [u8; 65_537] {
     [0u8; 65_537]
 }
 
-fn main() {
+fn main(rt: HostRuntime) {
     let mut input = buffer();
-    let reading = console::input::read_whole(b"bench", &mut input);
+    let reading = console::input::read_whole(&rt, &mut rt.stdin(), b"bench", &mut input);
     if reading.is_whole {
         let n = reading.count;
-        answer(&input[..n]);
+        answer(&rt, &input[..n]);
     }
 }

@@ -65,7 +65,7 @@ fn of_steps(line: Page, refusal: u8) -> Page {
 }
 
 // Says a refusal, the number of its record and what it means; nothing where there is none.
-pub(crate) fn tell(refusal: u8, at: u64, input: &[u8]) {
+pub(crate) fn tell(rt: &HostRuntime, refusal: u8, at: u64, input: &[u8]) {
     if refusal == 0 {
         return;
     }
@@ -73,5 +73,5 @@ pub(crate) fn tell(refusal: u8, at: u64, input: &[u8]) {
     let line = page::number(page::put(line, b" at "), at);
     let line = before_steps(page::put(line, b": "), refusal, at, input);
     let line = of_steps(line, refusal);
-    remarks::remark(page::put(line, b"\n"));
+    remarks::remark(rt, page::put(line, b"\n"));
 }

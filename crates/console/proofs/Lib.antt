@@ -1,2 +1,2 @@
--- The laws and the proofs of this crate.
+-- The laws of this crate.
 pub mod Rest

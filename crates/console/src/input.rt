@@ -1,8 +1,11 @@
-// Reading the whole of standard input. A read that fails is not the end of the input: it is told on standard error.
-ghost use Rattle.std.specs.Prelude.{◌≤◌, ◌≡◌, length};
-ghost use Rattle.io.specs.Counts.{IsPrefixLen};
+// Reading the whole of an input. A read that fails is not the end of the input: it is told on standard error.
+ghost use Rattle.std.specs.Prelude.{◌<◌, ◌≤◌, ◌≡◌, true, false, length, take};
+ghost use Rattle.std.specs.Io.KnownBytes.{Consumes, IsAtEnd};
+ghost use Rattle.console.specs.Counts.{IsPrefixLen};
+ghost use Rattle.remarks.specs.Errors.{is_none};
 
-use libc::STDIN_FILENO;
+use remarks::EINTR;
+use std::io::Read;
 
 // What reading gave: so many octets at the start of the buffer, and whether they are the whole input (or as much of it as the buffer holds).
 #[derive(Drop)]
@@ -21,9 +24,11 @@ struct Turn {
 
 // What a call that failed comes to: an interrupted one is tried again.
 fn failed(error: i32) -> Turn
-    ensures { result.count ≤ 0 }
+    requires { is_none error ≡ false }
+    ensures count { result.count ≡ 0 }
+    ensures failed { result.is_last ≡ true → is_none result.error ≡ false }
 {
-    if error == libc::EINTR {
+    if error == EINTR {
         return Turn {
             count: 0,
             error: 0,
@@ -38,26 +43,29 @@ fn failed(error: i32) -> Turn
 }
 
 // One read into what is left of a buffer. Where nothing is left, or nothing came, it was the last.
-fn read_once(rest: &mut [u8]) -> Turn
-    ensures { result.count ≤ length rest.old }
+fn read_once<R: Read>(input: &mut R, rest: &mut [u8]) -> Turn
+    ensures count { result.count ≤ length rest.old }
+    ensures came { Consumes (R.remaining input.old) (R.remaining input.new) (take result.count rest.new) }
+    ensures last { result.is_last ≡ true → is_none result.error ≡ true → 0 < length rest.old → IsAtEnd (R.remaining input.new) }
 {
-    let got = libc::read(STDIN_FILENO, rest);
-    if got < 0 {
-        return failed(os::errno());
-    }
-    Turn {
-        count: io::count(got, rest),
-        error: 0,
-        is_last: got == 0,
+    match input.read(rest) {
+        Ok(got) => Turn {
+            count: got,
+            error: 0,
+            is_last: got == 0,
+        },
+        Err(error) => failed(remarks::number_of(&error)),
     }
 }
 
-fn told(name: &[u8], error: i32, count: usize) -> Reading
-    ensures { result.count ≡ count }
+fn told(rt: &HostRuntime, name: &[u8], error: i32, count: usize) -> Reading
+    ensures count { result.count ≡ count }
+    ensures whole { result.is_whole ≡ is_none error }
 {
     Reading {
         count,
         is_whole: remarks::tell(
+            rt,
             name,
             b": no report, since standard input could not be read: error ",
             error,
@@ -65,21 +73,26 @@ fn told(name: &[u8], error: i32, count: usize) -> Reading
     }
 }
 
-// Reads standard input to its end, or until the buffer is full. A read that fails is told on standard error, behind the program's name.
-// (A loop that is proved has to end: the turns are counted down from a number that no run uses up.)
-#[tactic(auto, using(crate::proofs::Rest::within_rest))]
-pub fn read_whole(name: &[u8], buffer: &mut [u8]) -> Reading
-    ensures { IsPrefixLen result.count buffer.new }
+// Reads an input to its end, or until the buffer is full. A read that fails is told on standard error, behind the program's name.
+// (A loop that is proved has to end: the turns are counted up to a number that no run reaches.)
+#[tactic(auto, using(crate::proofs::Rest::more_came), unfolding(remarks::specs::Errors::is_none))]
+pub fn read_whole<R: Read>(
+    rt: &HostRuntime,
+    input: &mut R,
+    name: &[u8],
+    buffer: &mut [u8],
+) -> Reading
+    ensures count { IsPrefixLen result.count buffer.new }
+    ensures came { Consumes (R.remaining input.old) (R.remaining input.new) (take result.count buffer.new) }
+    ensures whole { result.is_whole ≡ true → result.count < length buffer.new → IsAtEnd (R.remaining input.new) }
 {
     let mut at: usize = 0;
-    let mut turns = u64::MAX;
-    while turns > 0 {
-        let turn = read_once(&mut buffer[at..]);
+    for _ in 0..u64::MAX {
+        let turn = read_once(input, &mut buffer[at..]);
         at += turn.count;
         if turn.is_last {
-            return told(name, turn.error, at);
+            return told(rt, name, turn.error, at);
         }
-        turns -= 1;
     }
-    told(name, libc::EINTR, at)
+    told(rt, name, EINTR, at)
 }

@@ -4,3 +4,5 @@
 
 pub mod input;
 pub mod output;
+#[cfg(test)]
+mod tests;

@@ -58,11 +58,9 @@ fn read_all(slots: &[u8], largest: u64, own: [u8; 6], turns: u64) -> u64
 {
     let mut sum: u64 = 0;
     let mut at: usize = 0;
-    let mut turn: u64 = 0;
-    while turn < turns {
+    for turn in 0..turns {
         sum = turns::add(sum, read(slots, at, largest, own));
         at = next(at, slots.len());
-        turn += 1;
     }
     sum
 }
@@ -100,10 +98,8 @@ fn build(buffer: &mut [u8], turn: u64) -> u64 {
 pub(crate) fn building(turns: u64) -> u64 {
     let mut buffer = [0u8; 64];
     let mut sum: u64 = 0;
-    let mut turn: u64 = 0;
-    while turn < turns {
+    for turn in 0..turns {
         sum = turns::add(sum, build(&mut buffer, turn));
-        turn += 1;
     }
     sum
 }

@@ -35,16 +35,16 @@ fn buffer() -> [u8; 65_536] {
 }
 
 // Prints the sum on a line.
-fn answer(file: &[u8]) {
+fn answer(rt: &HostRuntime, file: &[u8]) {
     let page = page::number(page::blank(), asked(file));
-    console::output::write_page(b"figures", page::put(page, b"\n"));
+    console::output::write_page(rt, &mut rt.stdout(), b"figures", page::put(page, b"\n"));
 }
 
-fn main() {
+fn main(rt: HostRuntime) {
     let mut file = buffer();
-    let reading = console::input::read_whole(b"figures", &mut file);
+    let reading = console::input::read_whole(&rt, &mut rt.stdin(), b"figures", &mut file);
     if reading.is_whole {
         let n = reading.count;
-        answer(&file[..n]);
+        answer(&rt, &file[..n]);
     }
 }

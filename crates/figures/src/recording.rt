@@ -84,13 +84,11 @@ fn watched(watch: Watch, turns: u64) -> u64 {
     let mut numbers = [[0u64; 4]; 8];
     let mut marks = Marks::fresh();
     let mut sum: u64 = 0;
-    let mut turn: u64 = 0;
-    while turn < turns {
+    for turn in 0..turns {
         let next = after(&mut numbers, marks, watch, turn);
         marks = next;
         let room = numbers[(turn % 8) as usize];
         sum = turns::add(sum, seen(room[0], next, turn));
-        turn += 1;
     }
     turns::add(sum, marks.sent as u64)
 }

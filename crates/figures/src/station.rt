@@ -38,12 +38,10 @@ fn after(what: u8, head: Head, turn: u64, count: u64) -> Head {
 pub(crate) fn timers(what: u8, turns: u64, count: u64) -> u64 {
     let mut head = Head::fresh(255);
     let mut sum: u64 = 0;
-    let mut turn: u64 = 0;
-    while turn < turns {
+    for turn in 0..turns {
         let next = after(what, head, turn, count);
         head = next;
         sum = turns::add(sum, timer_of(next, turn));
-        turn += 1;
     }
     turns::add(sum, head.indications as u64)
 }
@@ -65,12 +63,10 @@ fn request(head: Head, turn: u64) -> Head {
 pub(crate) fn requests(turns: u64) -> u64 {
     let mut head = Head::fresh(255);
     let mut sum: u64 = 0;
-    let mut turn: u64 = 0;
-    while turn < turns {
+    for turn in 0..turns {
         let next = request(head, turn);
         head = next;
         sum = turns::add(sum, timer_of(head, turn));
-        turn += 1;
     }
     turns::add(sum, head.indications as u64)
 }
@@ -112,10 +108,8 @@ fn chosen(turn: u64) -> u64 {
 
 pub(crate) fn choices(turns: u64) -> u64 {
     let mut sum: u64 = 0;
-    let mut turn: u64 = 0;
-    while turn < turns {
+    for turn in 0..turns {
         sum = turns::add(sum, chosen(turn));
-        turn += 1;
     }
     sum
 }

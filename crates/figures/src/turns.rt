@@ -7,7 +7,7 @@ pub(crate) fn count(file: &[u8]) -> u64 {
 
 // The sum goes on from 0 after the last value.
 pub(crate) fn add(sum: u64, answer: u64) -> u64 {
-    std::num::wrapping_add_u64(sum, answer)
+    sum.wrapping_add(answer)
 }
 
 // time[n] of a turn.

@@ -1,5 +1,6 @@
 // What the program prints, put on a page: the sum item by item, a refusal in words, a word that is no number, and how to use it.
 use headroom_sum::{Inputs, Items};
+use itoa::Buffer;
 use page::Page;
 use units::{BitTimes, OctetTimes};
 use words::Word;
@@ -15,10 +16,10 @@ fn start(page: Page, line: &[u8], n: usize) -> Page {
 
 // A number at the right end of a column of twelve.
 fn column(page: Page, n: u64) -> Page {
-    let mut digits = [0u8; 20];
-    let k = io::decimal(n, &mut digits);
-    let page = start(page, b"            ", words::blanks(12, k));
-    page::put(page, &digits[..k])
+    let mut digits = Buffer::new();
+    let number = digits.format(n).as_bytes();
+    let page = start(page, b"            ", words::blanks(12, number.len()));
+    page::put(page, number)
 }
 
 fn no_column(page: Page) -> Page {

@@ -5,7 +5,7 @@ use mathlib.Core.Path.{◌≡◌, sym, ◌∙◌, ap}
 use native.Mathlib.Nat.{pow-le-pow_right, lt_of_not-le}
 use native.Mathlib.Omega.{arith}
 use Rattle.ground.proofs.Decides.{Decides}
-use Rattle.io.specs.Digits.{IsDigitCount, last_digits}
+use Rattle.page.specs.Digits.{IsDigitCount, last_digits}
 use Rattle.page.specs.Page.{NumberPut, put_on}
 use Rattle.page.specs.declared.Page.{Page}
 use Rattle.page.proofs.blank.Kinds as blank_kinds

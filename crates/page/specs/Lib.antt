@@ -1,2 +1,3 @@
 -- What the promises of this crate cite.
+pub mod Digits
 pub mod Page

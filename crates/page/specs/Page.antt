@@ -1,8 +1,9 @@
 -- A page of octets that is filled before it is written, and what putting words and numbers on it gives.
 use Rattle.std.specs.Prelude.{ℕ, ◌+◌, ◌-◌, ◌≡◌, length, take, drop, ltb}
 use mathlib.Core.List.{List, ◌++◌, replicate}
-use Rattle.io.specs.Digits.{last_digits, IsDigitCount}
+use Rattle.std.specs.Fmt.{decimal}
 use Rattle.ground.specs.Pick.{pick}
+use Rattle.page.specs.Digits.{last_digits, IsDigitCount}
 use Rattle.page.specs.declared.Page.{Page}
 
 -- a page with nothing on it
@@ -33,8 +34,9 @@ put_on page words = record {
   used = used_after (length page.octets) page.used (length words);
 }
 
--- the page before and after a number was put on it: its decimal digits, as few as hold it and at least one
+-- the page before and after a number was put on it: its decimal digits, as few as hold it and at least one, which are what std prints of it
 pub record NumberPut (page : Page) (n : ℕ) (after : Page) : Type 0 where
   pub count : ℕ
   pub fewest : IsDigitCount 10 1 n count
   pub is : after ≡ put_on page (last_digits 10 count n)
+  pub printed : after ≡ put_on page (decimal n)

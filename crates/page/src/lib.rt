@@ -5,6 +5,8 @@
 ghost use Rattle.std.specs.Prelude.{◌≡◌, length};
 ghost use Rattle.page.specs.Page.{blank_page, used_after, octets_after, put_on, NumberPut};
 
+use itoa::Buffer;
+
 // How many octets an overfull page says that it has: more than any page holds.
 const OVERFULL: usize = 18_446_744_073_709_551_615;
 
@@ -37,8 +39,9 @@ fn put_behind(octets: &mut [u8], used: usize, words: &[u8]) -> usize
     if octets.len() - used < words.len() {
         return OVERFULL;
     }
-    bytes::copy(words, &mut octets[used..]);
-    used + words.len()
+    let end = used + words.len();
+    octets[used..end].copy_from_slice(words);
+    end
 }
 
 // Puts words on the page behind what is on it.
@@ -51,10 +54,10 @@ pub fn put(page: Page, words: &[u8]) -> Page
 }
 
 // Puts a number on the page, in decimal.
+#[tactic(auto, using(crate::proofs::Digits::number_put))]
 pub fn number(page: Page, n: u64) -> Page
     ensures { NumberPut page n result }
 {
-    let mut digits = [0u8; 20];
-    let k = io::decimal(n, &mut digits);
-    put(page, &digits[..k])
+    let mut digits = Buffer::new();
+    put(page, digits.format(n).as_bytes())
 }

@@ -9,30 +9,30 @@ use settings::Settings;
 use units::{BitTimes, OctetTimes, Quanta};
 
 // M 8, own address 6, frame: what the frame is, and the part handed back.
-pub(crate) fn reading(body: &[u8]) -> bool {
+pub(crate) fn reading(rt: &HostRuntime, body: &[u8]) -> bool {
     if body.len() < 14 {
-        return print::short();
+        return print::short(rt);
     }
     let largest = octets::wide_at(body, 0);
     let own = fields::address(body, 8);
-    let well = print::verdict(frame::read(&body[14..], largest, own));
-    print::part(well, frame::part(&body[14..], largest, own))
+    let well = print::verdict(rt, frame::read(&body[14..], largest, own));
+    print::part(rt, well, frame::part(&body[14..], largest, own))
 }
 
 // Source 6, e 1, times 8 x 2, buffer: the buffer is lent as it stands in the case.
-pub(crate) fn building(body: &mut [u8]) -> bool {
+pub(crate) fn building(rt: &HostRuntime, body: &mut [u8]) -> bool {
     if body.len() < 23 {
-        return print::short();
+        return print::short(rt);
     }
     let source = fields::address(body, 0);
     let e = body[6];
     let times = fields::times(body, 7);
-    build_in(&mut body[23..], source, e, times)
+    build_in(rt, &mut body[23..], source, e, times)
 }
 
-fn build_in(buffer: &mut [u8], source: [u8; 6], e: u8, times: [u16; 8]) -> bool {
+fn build_in(rt: &HostRuntime, buffer: &mut [u8], source: [u8; 6], e: u8, times: [u16; 8]) -> bool {
     let built = frame_build::build(buffer, source, e, times);
-    print::part(print::built(built), buffer)
+    print::part(rt, print::built(rt, built), buffer)
 }
 
 // The octets of the action at a place of a row; 0 where the row ends there.
@@ -84,9 +84,9 @@ fn after_row(head: Head, row: &[u8], start: usize) -> Head
 }
 
 // Enabled 1, indications so far 4, timers 8 x 2, then the row of actions.
-pub(crate) fn timers(body: &[u8]) -> bool {
+pub(crate) fn timers(rt: &HostRuntime, body: &[u8]) -> bool {
     if body.len() < 21 {
-        return print::short();
+        return print::short(rt);
     }
     let timers = fields::times(body, 5);
     let head = Head {
@@ -94,22 +94,25 @@ pub(crate) fn timers(body: &[u8]) -> bool {
         timers,
         indications: (octets::long_at(body, 1) % 4_294_967_296) as u32,
     };
-    print::head(after_row(head, body, 21))
+    print::head(rt, after_row(head, body, 21))
 }
 
 // Fronts 8, map 8, paused marks 1.
-pub(crate) fn choice(body: &[u8]) -> bool {
+pub(crate) fn choice(rt: &HostRuntime, body: &[u8]) -> bool {
     if body.len() < 17 {
-        return print::short();
+        return print::short(rt);
     }
     let paused = octets::bits(body[16]);
-    print::choice(choice::choose(fields::row(body, 0), fields::row(body, 8), paused))
+    print::choice(
+        rt,
+        choice::choose(fields::row(body, 0), fields::row(body, 8), paused),
+    )
 }
 
 // Rate, metres, percentage, M, generation, B transmit, B receive, A transmit, A receive, halt: 8 octets each.
-pub(crate) fn headroom(body: &[u8]) -> bool {
+pub(crate) fn headroom(rt: &HostRuntime, body: &[u8]) -> bool {
     if body.len() < 80 {
-        return print::short();
+        return print::short(rt);
     }
     let inputs = Inputs {
         rate: octets::wide_at(body, 0),
@@ -123,13 +126,13 @@ pub(crate) fn headroom(body: &[u8]) -> bool {
         a_receive: BitTimes(octets::wide_at(body, 64)),
         halt: BitTimes(octets::wide_at(body, 72)),
     };
-    print::summed(headroom_sum::sum(inputs))
+    print::summed(rt, headroom_sum::sum(inputs))
 }
 
 // Enabled 1, M 8, generation 8, request path 8, data path 8, T 2, I 8, hysteresis 8, rooms 8 x 8.
-pub(crate) fn settings(body: &[u8]) -> bool {
+pub(crate) fn settings(rt: &HostRuntime, body: &[u8]) -> bool {
     if body.len() < 115 {
-        return print::short();
+        return print::short(rt);
     }
     let rooms = fields::rooms(&body[51..]);
     let settings = Settings {
@@ -143,25 +146,25 @@ pub(crate) fn settings(body: &[u8]) -> bool {
         hysteresis: octets::wide_at(body, 43),
         rooms,
     };
-    print::settling(settings::settle(settings))
+    print::settling(rt, settings::settle(settings))
 }
 
-fn send<'a>(control: &'a [u8], data: &'a [u8], due: bool) -> bool {
-    let well = print::refusal(b"sender ", sender::send_refusal(control));
-    print::part(well, sender::to_send(control, data, due))
+fn send<'a>(rt: &HostRuntime, control: &'a [u8], data: &'a [u8], due: bool) -> bool {
+    let well = print::refusal(rt, b"sender ", sender::send_refusal(control));
+    print::part(rt, well, sender::to_send(control, data, due))
 }
 
 // Due 1, control length 2, data length 2, control frame, data frame.
-pub(crate) fn sender(body: &[u8]) -> bool {
+pub(crate) fn sender(rt: &HostRuntime, body: &[u8]) -> bool {
     if body.len() < 5 {
-        return print::short();
+        return print::short(rt);
     }
     let control = octets::word_at(body, 1) as usize;
     let data = octets::word_at(body, 3) as usize;
     let middle = 5 + control;
     let end = middle + data;
     if body.len() < end {
-        return print::short();
+        return print::short(rt);
     }
-    send(&body[5..middle], &body[middle..end], body[0] != 0)
+    send(rt, &body[5..middle], &body[middle..end], body[0] != 0)
 }

@@ -6,7 +6,7 @@ pub(crate) fn address(case: &[u8], at: usize) -> [u8; 6]
     requires { at + 5 < length case.now }
 {
     let mut six = [0u8; 6];
-    bytes::copy(&case[at..at + 6], &mut six);
+    six.copy_from_slice(&case[at..at + 6]);
     six
 }
 
@@ -15,7 +15,7 @@ pub(crate) fn row(case: &[u8], at: usize) -> [u8; 8]
     requires { at + 7 < length case.now }
 {
     let mut eight = [0u8; 8];
-    bytes::copy(&case[at..at + 8], &mut eight);
+    eight.copy_from_slice(&case[at..at + 8]);
     eight
 }
 

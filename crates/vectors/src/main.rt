@@ -8,26 +8,26 @@ mod fields;
 mod print;
 
 // Answers one case: an octet that says what is asked, and its body. Whether all of its line was written.
-fn answer(case: &mut [u8]) -> bool {
+fn answer(rt: &HostRuntime, case: &mut [u8]) -> bool {
     if case.len() < 1 {
-        return print::short();
+        return print::short(rt);
     }
     let kind = case[0];
     let body = &mut case[1..];
     match kind {
-        0x01 => asked::reading(body),
-        0x02 => asked::building(body),
-        0x03 => asked::timers(body),
-        0x04 => asked::choice(body),
-        0x05 => asked::headroom(body),
-        0x06 => asked::settings(body),
-        0x08 => asked::sender(body),
-        _ => print::short(),
+        0x01 => asked::reading(rt, body),
+        0x02 => asked::building(rt, body),
+        0x03 => asked::timers(rt, body),
+        0x04 => asked::choice(rt, body),
+        0x05 => asked::headroom(rt, body),
+        0x06 => asked::settings(rt, body),
+        0x08 => asked::sender(rt, body),
+        _ => print::short(rt),
     }
 }
 
 // Answers the cases of a file in order, up to one that is cut short or a write that fails.
-fn answer_all(file: &mut [u8]) {
+fn answer_all(rt: &HostRuntime, file: &mut [u8]) {
     let mut at: usize = 0;
     while file.len() - at >= 2 {
         let size = octets::word_at(file, at) as usize;
@@ -36,7 +36,7 @@ fn answer_all(file: &mut [u8]) {
             return;
         }
         let end = start + size;
-        let is_written = answer(&mut file[start..end]);
+        let is_written = answer(rt, &mut file[start..end]);
         if !is_written {
             return;
         }
@@ -48,11 +48,11 @@ fn buffer() -> [u8; 1_048_576] {
     [0u8; 1_048_576]
 }
 
-fn main() {
+fn main(rt: HostRuntime) {
     let mut file = buffer();
-    let reading = console::input::read_whole(b"vectors", &mut file);
+    let reading = console::input::read_whole(&rt, &mut rt.stdin(), b"vectors", &mut file);
     if reading.is_whole {
         let n = reading.count;
-        answer_all(&mut file[..n]);
+        answer_all(&rt, &mut file[..n]);
     }
 }

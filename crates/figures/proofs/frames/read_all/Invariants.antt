@@ -1,0 +1,6 @@
+-- A whole slot stands at the place.
+use Rattle.std.proofs.Common.{◌+◌, ◌≤◌, length}
+use Rattle.figures.proofs.frames.read_all.Given as goal
+
+abbrev pub invariant-loop-turn : goal.invariant-loop-turn
+invariant-loop-turn l = l.at + 128 ≤ length l.slots
