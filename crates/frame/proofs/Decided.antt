@@ -19,6 +19,7 @@ pub times_of_decides : Decides 0 times_of_kinds.ps times_of_kinds.r times_of.Pos
 times_of_decides κs args x y e f p q = p ∙ sym q
 
 -- of a part handed back: the octets in it (that they are the caller's own is what its lifetime says)
-pub part_decides : (κs : Lfts 1) (args : Dens κs part_kinds.ps) (x y : (res_t part_kinds.r κs).Denot) (e f : AtExit (ended_of 1 part_kinds.ps part_kinds.r) κs) →
+pub part_decides : (κs : Lfts 1) (args : Dens κs part_kinds.ps) (x y : (res_t part_kinds.r κs).Denot)
+    (e f : AtExit (ended_of 1 part_kinds.ps part_kinds.r) κs) →
     part.Post κs args x e → part.Post κs args y f → x.now ≡ y.now
 part_decides κs args x y e f p q = p ∙ sym q

@@ -10,7 +10,8 @@ use Rattle.head.specs.Sequence.Event.{request, passing}
 use Rattle.head.specs.Timers.{after_quanta, after_request, is_named, timer}
 use Rattle.head.proofs.Timers.{timer_passed, timer_taken}
 
-by_setting : (named : Bool) (time timer : ℕ) (later : Seen) → timer_by (pick named time timer) later ≡ timer_by timer (pick named (seen_setting time later) later)
+by_setting : (named : Bool) (time timer : ℕ) (later : Seen) →
+    timer_by (pick named time timer) later ≡ timer_by timer (pick named (seen_setting time later) later)
 unfolding pick
 by_setting true time timer later = refl
 by_setting false time timer later = refl

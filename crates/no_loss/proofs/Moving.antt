@@ -72,7 +72,8 @@ module _ (w : Watch) (clock : ℕ) (r : Recorder) (all : EightRooms r) where
             (λ (x : Room). Moves (limits_of w p).mark (Arrives p) (shown_at w r p) (octets p) (shown (limits_of w p) x)) p (one_of_eight w p on)
             (λ same. own p (sym same))
             (λ apart.
-            subst (λ (n : ℕ). Moves (limits_of w p).mark (Arrives p) (shown_at w r p) n (shown_at w r p)) (sym (other p (λ mine. apart (sym mine)))) Moves.alone);
+            subst (λ (n : ℕ). Moves (limits_of w p).mark (Arrives p) (shown_at w r p) n (shown_at w r p)) (sym (other p (λ mine. apart (sym mine))))
+            Moves.alone);
       }
     where
       changed : Bool

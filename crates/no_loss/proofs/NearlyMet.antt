@@ -65,7 +65,8 @@ steps : Unit {0}
 unfolding first_of step_of next_of refusal_of waited data_started arrived other_started pfc_started took_effect octets_taken effect_of oldest_end overrun
     wait_number start_data_number arrive_number start_other_number start_pfc_number length_outside
     is_never is_ahead past_due due_on refresh_from due_by
-    limits_of differ with_mark with_room arrived_with arrived_at refusal_with taking_refusal taken_with taken_at refresh_of started_at with_due time_for times_for
+    limits_of differ with_mark with_room arrived_with arrived_at refusal_with taking_refusal taken_with taken_at refresh_of started_at with_due
+    time_for times_for
     held_after dropped_after wanted_after span_after span_kept arrived_in taken_from some is_enabled
     order_by is_outside is_control is_elsewhere is_other is_accepted taken verdict verdict_by pick
 steps = tt

@@ -32,7 +32,8 @@ or_none false = refl
 -- of eight marks one is set: the first or another
 abbrev any_of : List Bool → Bool
 any_of m =
-    get_or m 0 false || (get_or m 1 false || (get_or m 2 false || (get_or m 3 false || (get_or m 4 false || (get_or m 5 false || (get_or m 6 false || get_or m 7 false))))))
+    get_or m 0 false || (get_or m 1 false || (get_or m 2 false || (get_or m 3 false ||
+    (get_or m 4 false || (get_or m 5 false || (get_or m 6 false || get_or m 7 false))))))
 
 pub some_of_eight : (marks : List Bool) → length marks ≡ 8 → any_of marks ≡ some marks
 some_of_eight marks long = sym (ap some (eight_of_list marks false long) ∙ simp (some_first, or_none))

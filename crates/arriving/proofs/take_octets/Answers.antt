@@ -12,8 +12,8 @@ returns c =
     let a = c.args in
     let was = recorder_of a.numbers.now a.bench.marks in
     let leaves =
-        c.taken-taking.ensures.1 ∙
-        ap (λ (l : Limits). leaves_with a.watch.settings.enabled l was a.priority a.count a.bench.clock.0) c.limits_of.ensures in (
+    c.taken-taking.ensures.1 ∙
+    ap (λ (l : Limits). leaves_with a.watch.settings.enabled l was a.priority a.count a.bench.clock.0) c.limits_of.ensures in (
       (λ i. record { outcome = (c.outcome_of.ensures.1 ∙ ap outcome_of c.taken-taking.ensures.0) i; bench = with_marks a.bench (leaves i).marks }),
       ap (λ (r : Recorder). r.rooms) leaves,
     )
