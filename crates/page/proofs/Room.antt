@@ -30,3 +30,6 @@ put_back used page words middle is =
     ap (λ (n : ℕ). put_mid used n page middle) count
     ∙ ap (λ (part : List ℕ). take used page ++ (part ++ drop (length words) (drop used page))) is
     ∙ ap (λ (tail : List ℕ). take used page ++ (words ++ tail)) (drop-drop (length words) used page)
+
+-- what closes each way out of putting words behind others
+pub ruleset room = (past_end, too_many, with_room, put_back)

@@ -28,7 +28,7 @@ pub fn blank() -> Page
 }
 
 // Words put behind the octets that are used: how many are used then. Where they do not fit the octets stay, and more than all are used.
-#[tactic(auto, using(crate::proofs::Room::past_end, crate::proofs::Room::too_many, crate::proofs::Room::with_room, crate::proofs::Room::put_back), unfolding(crate::specs::Page::octets_after, crate::specs::Page::used_after))]
+#[tactic(auto, using(crate::proofs::Room::room), unfolding(crate::specs::Page::octets_after, crate::specs::Page::used_after))]
 fn put_behind(octets: &mut [u8], used: usize, words: &[u8]) -> usize
     ensures value { result ≡ used_after (length octets.old) used (length words.now) }
     ensures octets_after { octets.new ≡ octets_after octets.old used words.now }

@@ -4,4 +4,8 @@ use Rattle.std.specs.Io.KnownBytes.{Consumes}
 use Rattle.console.proofs.input.read_whole.Given as goal
 
 abbrev pub invariant-loop : goal.invariant-loop
-invariant-loop g l = (length l.buffer ≡ length l.initial.buffer) × (l.at ≤ length l.buffer) × Consumes (g.R.Read.remaining l.initial.input) (g.R.Read.remaining l.input) (take l.at l.buffer)
+invariant-loop g l = record {
+  same_length : length l.buffer ≡ length l.initial.buffer;
+  inside : l.at ≤ length l.buffer;
+  came : Consumes (g.R.Read.remaining l.initial.input) (g.R.Read.remaining l.input) (take l.at l.buffer);
+}
