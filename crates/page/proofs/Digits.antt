@@ -8,7 +8,8 @@ use native.Mathlib.Omega.{arith}
 use lib.ListN.{length, length-append}
 use Rattle.std.specs.Fmt.{decimal}
 use Rattle.std.proofs.lemmas.Fmt.{decimal_by_steps}
-use Rattle.page.specs.Digits.{last_digits, IsDigitCount}
+use borrow.Author.Tests.{lt-ltb}
+use Rattle.page.specs.Digits.{digit_ascii, last_digits, IsDigitCount}
 use Rattle.page.specs.Page.{NumberPut, put_on}
 use Rattle.page.specs.declared.Page.{Page}
 
@@ -30,17 +31,25 @@ grow m (suc (suc k)) h few =
 abbrev AreDigits : ℕ → List ℕ → Type 0
 AreDigits m text = IsDigitCount 10 1 m (length text) × (text ≡ last_digits 10 (length text) m)
 
+-- a digit below ten is written as itself
+decimal_digit : (d : ℕ) → d < 10 → 48 + d ≡ digit_ascii d
+decimal_digit d small = rw (lt-ltb d 10 small)
+
 one : (m : ℕ) → m < 10 → AreDigits m ((48 + m) ∷ [])
 one m small =
-    let same : m ≡ m % 10 = omega arith in
-    ((omega arith, omega (arith, ten_times 0, pow-zero 10), λ more. absurd (omega arith)), ap (λ (d : ℕ). (48 + d) ∷ []) same)
+    let same : m ≡ m % 10 = omega arith in (
+      (omega arith, omega (arith, ten_times 0, pow-zero 10), λ more. absurd (omega arith)),
+      ap (λ (d : ℕ). d ∷ []) (decimal_digit m small ∙ ap digit_ascii same),
+    )
 
 more : (m : ℕ) (text : List ℕ) → 10 ≤ m → AreDigits (m / 10) text → AreDigits m (text ++ ((48 + m % 10) ∷ []))
 more m text large digits =
     let last : List ℕ = (48 + m % 10) ∷ [] in
     let longer : length (text ++ last) ≡ suc (length text) = length-append text last ∙ add-one (length text) in (
       subst (λ (k : ℕ). IsDigitCount 10 1 m k) (sym longer) (grow m (length text) large digits.0),
-      ap (λ (front : List ℕ). front ++ last) digits.1 ∙ ap (λ (k : ℕ). last_digits 10 k m) (sym longer),
+      ap (λ (front : List ℕ). front ++ last) digits.1 ∙
+          ap (λ (d : ℕ). last_digits 10 (length text) (m / 10) ++ (d ∷ [])) (decimal_digit (m % 10) (omega arith)) ∙
+          ap (λ (k : ℕ). last_digits 10 k m) (sym longer),
     )
 
 pub number_put : (page : Page) (n : ℕ) (after : Page) → n < 2 ^ 64 → after ≡ put_on page (decimal n) → NumberPut page n after

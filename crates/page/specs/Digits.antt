@@ -1,10 +1,14 @@
 -- The digits of a number in ASCII, and how many of them hold it.
-use Rattle.std.specs.Prelude.{ℕ, zero, suc, ◌+◌, ◌-◌, ◌/◌, ◌%◌, ◌^◌, ◌<◌, ◌≤◌, List, [], ◌∷◌, ◌++◌}
+use Rattle.std.specs.Prelude.{ℕ, zero, suc, ◌+◌, ◌-◌, ◌/◌, ◌%◌, ◌^◌, ◌<◌, ◌≤◌, cond, List, [], ◌∷◌, ◌++◌, nat_lt}
 
--- the last k digits of n in a base of at most ten, the most significant first; 48 is `0`
+-- the ASCII code of a digit below 16: `0` to `9`, then `a` to `f`
+abbrev pub digit_ascii : ℕ → ℕ
+digit_ascii d = cond (nat_lt d 10) (48 + d) (87 + d)
+
+-- the last k digits of n in base b, the most significant first
 abbrev pub last_digits : ℕ → ℕ → ℕ → List ℕ
 last_digits b zero n = []
-last_digits b (suc k) n = last_digits b k (n / b) ++ ((48 + n % b) ∷ [])
+last_digits b (suc k) n = last_digits b k (n / b) ++ (digit_ascii (n % b) ∷ [])
 
 -- n takes k digits in base b, when padded to `width` digits
 abbrev pub IsDigitCount : ℕ → ℕ → ℕ → ℕ → Type 0
