@@ -8,7 +8,7 @@ use remarks::EINTR;
 use std::io::Read;
 
 // What reading gave: so many octets at the start of the buffer, and whether they are the whole input (or as much of it as the buffer holds).
-#[derive(Drop)]
+#[derive(Clone, Copy)]
 pub struct Reading {
     pub count: usize,
     pub is_whole: bool,
@@ -24,9 +24,8 @@ struct Turn {
 
 // What a call that failed comes to: an interrupted one is tried again.
 fn failed(error: i32) -> Turn
-    requires { is_none error ≡ false }
     ensures count { result.count ≡ 0 }
-    ensures failed { result.is_last ≡ true → is_none result.error ≡ false }
+    ensures failed { is_none error ≡ false → result.is_last ≡ true → is_none result.error ≡ false }
 {
     if error == EINTR {
         return Turn {

@@ -1,5 +1,5 @@
 -- The account of each enabled priority over any list of records from the start: what arrived is what is held, was taken and was dropped, and
--- what was dropped is what did not fit beside what the account itself holds. For whoever asks that `no-loss` counts what B holds, too, and
+-- what was dropped is what did not fit beside what the account itself holds. For whoever asks that `no_loss` counts what B holds, too, and
 -- that its sums do not lean on the state's own count of it. Assumes accepted settings, with T in its two octets.
 use Prim.Native.Nat.{ℕ, ◌+◌, ◌-◌, ◌≤◌, ◌<◌}
 use mathlib.Core.Bool.{Bool, true, false, false≢true}

@@ -1,5 +1,5 @@
 -- "The calculated headroom": where the headroom sum accepts its inputs and settings are made from them and from its answer, the headroom
--- of the settings, which `no-loss` speaks of, is the one that the sum answers, and so is the one-way time. It is stated of whatever the
+-- of the settings, which `no_loss` speaks of, is the one that the sum answers, and so is the one-way time. It is stated of whatever the
 -- contract of `headroom_sum::sum` permits. For whoever works out how much room to keep. It assumes nothing else of the settings.
 use Prim.Native.Nat.{ℕ, ◌<◌, ◌≤◌}
 use mathlib.Core.Bool.{Bool, true, false}

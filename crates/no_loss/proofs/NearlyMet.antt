@@ -1,6 +1,6 @@
 -- The headroom is nearly met: with the settings of document 01's worked example a run of 40 records, every delay at its bound and A's wire
 -- never idle, brings 15,619 octets in one wanted span. That is the headroom, 15,779, less the gaps of 20 octet times of its eight frames.
--- It also shows that `no-loss` speaks of settings that exist and of records that are accepted, and `nothing-lost-in-a-run` of an input
+-- It also shows that `no_loss` speaks of settings that exist and of records that are accepted, and `nothing_lost_in_a_run` of an input
 -- whose report has an enabled priority. What the theorems say of this run is computed here a second time, so that a statement or a sum that
 -- says something else is refuted by a number (`must-fail/`).
 use Prim.Native.Nat.{ℕ}
@@ -76,7 +76,7 @@ pub nearly_met : ((room_at (reached example full_run).recorder 3).worst ≡ 1561
 unfolding after steps
 nearly_met = (refl, refl)
 
--- what `no-loss` says of this run, computed and not taken from it: whatever else the statement or its sums said would be false here. The
+-- what `no_loss` says of this run, computed and not taken from it: whatever else the statement or its sums said would be false here. The
 -- bound could be 160 lower in this run, and no lower
 pub nearly_met_computed : NothingLost example full_run 3
 unfolding after oldest_brings brings arriving not_fitting dropped_sum span_sum worst_from steps
@@ -86,7 +86,7 @@ nearly_met_computed = record { dropped_counted = refl; worst_counted = refl; non
 abbrev pub taken_run : List Record
 taken_run = full_run ++ (record'.TakeOctets 3 2000 ∷ [])
 
--- what `adds-up` says of that run, computed in the same way: 17,619 octets arrived, 15,619 are held, 2,000 were taken, none was dropped
+-- what `adds_up` says of that run, computed in the same way: 17,619 octets arrived, 15,619 are held, 2,000 were taken, none was dropped
 pub taken_computed : AddsUp example taken_run 3
 unfolding after oldest_brings brings arriving not_fitting dropped_sum takes taking arrived_sum taken_sum overflow held_by dropped_from steps
 taken_computed = record { arrived_is = refl; dropped_is = refl }

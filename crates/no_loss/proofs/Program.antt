@@ -1,9 +1,9 @@
 -- No frame is lost in a run over an input. Whatever octets it is of, its report is of the input's own settings, its steps are the records
--- that the run accepts (`acceptedIn`), none of them is refused, and for each priority that it reports as enabled dropped and worst are the
+-- that the run accepts (`accepted_in`), none of them is refused, and for each priority that it reports as enabled dropped and worst are the
 -- sums over exactly those records, dropped is 0, worst is at most the headroom, and what arrived is what is held or was taken. It is for
 -- whoever reads the program's lines and relies on B's rooms. It assumes that the input is made of octets, each below 256, and nothing
 -- else: an input that is too long, or whose settings are missing, cut short or refused, accepts no record and reports no priority as enabled.
--- The chain: the octets of the input → `runOf` → the state after `acceptedIn` (`run-accepts`) → `no-loss` of `NoLoss` and `adds-up` of `Account`.
+-- The chain: the octets of the input → `run_of` → the state after `accepted_in` (`run_accepts`) → `no_loss` of `NoLoss` and `adds_up` of `Account`.
 use Prim.Native.Nat.{ℕ, zero, suc, ◌+◌, ◌<◌}
 use mathlib.Core.Bool.{Bool, true, false}
 use mathlib.Core.Path.{◌≡◌, refl, sym, ap, subst, ◌∙◌}

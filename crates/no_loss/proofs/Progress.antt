@@ -1,6 +1,6 @@
 -- Nothing stands still. For every settings that are accepted and every list of records: from the state that they reach, while time is
 -- below 2^40, there are further records, none of them refused, after which time is one more. And in every such state a wait of 0 is
--- accepted and changes nothing. The first shows that `no-loss` does not speak of a bench that refuses every wait. Assumed is, as there,
+-- accepted and changes nothing. The first shows that `no_loss` does not speak of a bench that refuses every wait. Assumed is, as there,
 -- that T fits its two octets.
 use Prim.Native.Nat.{◌+◌, ◌^◌, ◌<◌}
 use mathlib.Core.Path.{◌≡◌}

@@ -11,7 +11,7 @@ use itoa::Buffer;
 const OVERFULL: usize = 18_446_744_073_709_551_615;
 
 // Octets, and how many of them are used.
-#[derive(Drop)]
+#[derive(Clone, Copy)]
 pub struct Page {
     pub octets: [u8; 8192],
     pub used: usize,
