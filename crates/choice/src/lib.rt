@@ -18,7 +18,6 @@ pub enum Choice {
 
 // The highest class whose front is present and not paused, or none. fronts has the front of each class queue, a priority 0 to 7 or
 // 8 for an empty queue; map the class of each priority; paused the paused mark of each priority. Refused by number: 22, 20, 21.
-
 pub fn choose(fronts: [u8; 8], map: [u8; 8], paused: [bool; 8]) -> Choice
     ensures { (number_of result ≡ first_of (choosing_order fronts map)) × (result ≡ choice fronts map paused) }
 {

@@ -160,7 +160,6 @@ fn taken(control: bool, frame: &[u8]) -> Verdict
 
 // What a frame is to a station with this own address, where the largest frame is M: document 01's order of refusals 13, 1, 2, then
 // data, then 3, 4, else the request. The first octet of the enable vector and octets 34 on are not looked at.
-
 pub fn read(frame: &[u8], largest: u64, own: [u8; 6]) -> Verdict
     ensures { (number_of result ≡ first_of (reading_order frame.now largest own)) × (result ≡ verdict frame.now largest own) }
 {

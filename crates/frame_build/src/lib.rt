@@ -59,7 +59,6 @@ fn lead_octets(source: [u8; 6], e: u8) -> [u8; 18]
 }
 
 // The 60 octets of a frame: those before the times, the times, zeroes.
-
 fn frame_octets(lead: [u8; 18], times: [u8; 16]) -> [u8; frame::FRAME_OCTETS]
     ensures { result ≡ lead ++ times ++ replicate 26 0 }
 {
@@ -93,7 +92,6 @@ fn put(made: &[u8], buffer: &mut [u8])
 
 // Writes the PFC frame with this source, enable octet and times into the buffer's first 60 octets and leaves the rest. A buffer under
 // 60 octets is refused with 5, a source with the group bit with 6, and then no octet changes.
-
 pub fn build(buffer: &mut [u8], source: [u8; 6], e: u8, times: [u16; 8]) -> Built
     ensures { (build_number_of result ≡ first_of (building_order (length buffer.old) source))
         × (result ≡ build_verdict (length buffer.old) source)

@@ -76,7 +76,6 @@ pub struct Taking {
 }
 
 // Octets of a priority are taken from a room with these limits: 32, 43 and 42 in this order, else they leave it and the marks are tried.
-
 pub fn taken(
     numbers: &mut [[u64; 4]; 8],
     marks: Marks,
