@@ -13,4 +13,4 @@ pub start_pfc_decides : (κs : Lfts 2) (args : Dens κs start_pfc_kinds.ps) (x y
     start_pfc.Post κs args x e → start_pfc.Post κs args y f →
     (x ≡ y) × (e.1.1.0.now ≡ f.1.1.0.now) × (e.1.1.1.0.now ≡ f.1.1.1.0.now)
 start_pfc_decides κs args x y e f p q =
-    (p.0 ∙ sym q.0, p.1.ends_are ∙ sym q.1.ends_are, p.1.slots_are ∙ sym q.1.slots_are)
+    (p.1.0 ∙ sym q.1.0, p.1.1.ends_are ∙ sym q.1.1.ends_are, p.1.1.slots_are ∙ sym q.1.1.slots_are)

@@ -1,15 +1,14 @@
 -- Document 01, "The bench": for each kind of record its refusals in their order, and the state after it.
-use Rattle.std.specs.Prelude.{ℕ, ◌+◌, ◌-◌, ◌/◌, Bool, true, List, [], ◌∷◌, ◌++◌, ltb, eqb}
+use Rattle.std.specs.Prelude.{ℕ, ◌+◌, ◌-◌, ◌/◌, Bool, true, List, [], ◌∷◌, ◌++◌, ltb, eqb, Option, Some, None, Result, Ok, Err}
 use lib.ListN.{length}
 use Rattle.ground.specs.Pick.{pick}
+use Rattle.refusals.specs.Refusals.{number}
 use Rattle.units.specs.Units.{within64}
-use Rattle.moments.specs.declared.Moment.{Moment}
-use Rattle.moments.specs.declared.Moment.TheVariants.{Never}
-use Rattle.moments.specs.Moments.{at, is_never, is_ahead, past_due, due_by}
+use Rattle.moments.specs.Moments.{Moment, at, is_never, is_ahead, past_due, due_by}
 use Rattle.frame_build.specs.Build.{built_frame}
-use Rattle.frame.specs.Read.{verdict, times_of}
-use Rattle.frame.specs.declared.Verdict.{Verdict}
-use Rattle.frame.specs.declared.Verdict.TheVariants.{Data, Asks, Refused}
+use Rattle.refusals.specs.declared.Refusal.{Refusal}
+use Rattle.frame.specs.declared.Request.{Request}
+use Rattle.frame.specs.Read.{verdict}
 use Rattle.head.specs.declared.Head.{Head}
 use Rattle.head.specs.Timers.{after_request, after_quanta, is_paused}
 use Rattle.units.specs.Units.{wire_time, pfc_time}
@@ -17,8 +16,8 @@ use Rattle.marks.specs.declared.Marks.{Marks}
 use Rattle.recorder.specs.declared.Watch.{Watch}
 use Rattle.marks.specs.Marks.{refresh_of, started_at, with_due, times_for}
 use Rattle.recorder.specs.Watching.{Recorder, recorder_of, arrived_at, taking_refusal, taken_at}
-use Rattle.records.specs.declared.Record.{Record}
-use Rattle.records.specs.declared.Record.TheVariants as record'
+use Rattle.records.specs.Records.{Asked}
+use Rattle.records.specs.declared.Record.TheVariants.{Wait, StartData, Arrive, StartOther, StartPfc, TakeEffect, TakeOctets}
 use Rattle.decisions.specs.Chains.{length_outside, wait_number, start_data_number, arrive_number, start_other_number, start_pfc_number}
 use Rattle.bench_meaning.specs.State.{Frame, Direction, State, data_octets, priority_of, length_of, with_head, with_recorder, with_to_b, with_to_a}
 
@@ -52,7 +51,7 @@ leaving direction rest = record { free = direction.free; row = rest }
 
 -- when the wire time of a row's oldest frame ends. Frames stand in the order of their starts, so that the oldest's ends first
 unfoldable pub oldest_end : List Frame → Moment
-oldest_end [] = Never
+oldest_end [] = None
 oldest_end (oldest ∷ rest) = at oldest.end
 
 -- "A frame can arrive from the moment its wire time ends": 37 where none has
@@ -74,33 +73,34 @@ overrun w s moment =
     (pick (overdue s.to_a w.kept.request.0 moment) true
     (past_due (due_then w s moment) (w.kept.generation.0 + w.kept.wire.0) moment))
 
--- the number of a record's refusal, or 0 where it is accepted; each kind's order is written in `decisions/specs/Chains.antt`
-unfoldable pub refusal_of : Watch → State → Record → ℕ
-refusal_of w s (record'.Wait n) = wait_number (s.clock + n) (overrun w s (s.clock + n))
-refusal_of w s (record'.StartData priority length) =
+-- the number of the refusal of what is asked, or 0 where it is accepted: a record's by its kind, of which each order is written in
+-- `decisions/specs/Chains.antt`; octets that ask nothing have their own
+unfoldable pub refusal_of : Watch → State → Asked → ℕ
+refusal_of w s (Ok (Wait n)) = wait_number (s.clock + n) (overrun w s (s.clock + n))
+refusal_of w s (Ok (StartData priority length)) =
     start_data_number
     priority
     (length_outside w.settings.largest length)
     (busy s.to_b s.clock)
     (is_paused s.head priority)
     (lib.ListN.length s.to_b.row)
-refusal_of w s record'.Arrive = arrive_number (none_ended s.to_b s.clock)
-refusal_of w s (record'.StartOther length) =
+refusal_of w s (Ok Arrive) = arrive_number (none_ended s.to_b s.clock)
+refusal_of w s (Ok (StartOther length)) =
     start_other_number
     (length_outside w.settings.largest length)
     (busy s.to_a s.clock)
     (past_due s.recorder.marks.due w.kept.generation.0 s.clock)
-refusal_of w s record'.StartPfc =
+refusal_of w s (Ok StartPfc) =
     start_pfc_number (is_never s.recorder.marks.due) (busy s.to_a s.clock) (lib.ListN.length s.to_a.row)
-refusal_of w s record'.TakeEffect = arrive_number (none_ended s.to_a s.clock)
-refusal_of w s (record'.TakeOctets priority octets) = taking_refusal w s.recorder priority octets
-refusal_of w s (record'.Refused number) = number
+refusal_of w s (Ok TakeEffect) = arrive_number (none_ended s.to_a s.clock)
+refusal_of w s (Ok (TakeOctets priority octets)) = taking_refusal w s.recorder priority octets
+refusal_of w s (Err refusal) = number refusal
 
 -- what a PFC frame does at A: a request is taken; anything else changes nothing
-unfoldable pub effect_of : Verdict → Head → Head
-effect_of Data head = head
-effect_of (Asks request) head = after_request head request.e (times_of request)
-effect_of (Refused number) head = head
+unfoldable pub effect_of : Result (Option Request) Refusal → Head → Head
+effect_of (Ok None) head = head
+effect_of (Ok (Some request)) head = after_request head request.e request.times
+effect_of (Err refusal) head = head
 
 -- the octets of the PFC frame as B builds it now
 abbrev pub pfc_now : Watch → Marks → List ℕ
@@ -153,16 +153,16 @@ unfoldable pub octets_taken : Watch → State → ℕ → ℕ → State
 octets_taken w s priority octets = with_recorder s (taken_at w s.recorder priority octets s.clock)
 
 -- the state after a record that is accepted
-unfoldable pub next_of : Watch → State → Record → State
-next_of w s (record'.Wait n) = waited w s n
-next_of w s (record'.StartData priority length) = data_started s priority length
-next_of w s record'.Arrive = arrived w s s.to_b.row
-next_of w s (record'.StartOther length) = other_started s length
-next_of w s record'.StartPfc = pfc_started w s
-next_of w s record'.TakeEffect = took_effect w s s.to_a.row
-next_of w s (record'.TakeOctets priority octets) = octets_taken w s priority octets
-next_of w s (record'.Refused number) = s
+unfoldable pub next_of : Watch → State → Asked → State
+next_of w s (Ok (Wait n)) = waited w s n
+next_of w s (Ok (StartData priority length)) = data_started s priority length
+next_of w s (Ok Arrive) = arrived w s s.to_b.row
+next_of w s (Ok (StartOther length)) = other_started s length
+next_of w s (Ok StartPfc) = pfc_started w s
+next_of w s (Ok TakeEffect) = took_effect w s s.to_a.row
+next_of w s (Ok (TakeOctets priority octets)) = octets_taken w s priority octets
+next_of w s (Err refusal) = s
 
 -- one record: its number, and the state after it; "All return the number and leave state, counters and lent octets as found."
-unfoldable pub step_of : Watch → State → Record → State
+unfoldable pub step_of : Watch → State → Asked → State
 step_of w s asked = pick (eqb (refusal_of w s asked) 0) (next_of w s asked) s

@@ -4,23 +4,26 @@ use mathlib.Core.Path.{◌≡◌, refl, sym, ap, subst, ◌∙◌}
 use mathlib.Core.Bool.{Bool, true, false}
 use mathlib.Core.List.{List, ◌∷◌}
 use native.Mathlib.Omega.{arith}
+use Rattle.std.specs.Prelude.{Result, Ok, Err, IsErrAnd}
 use lib.Dec.{ltb, eqb}
 use lib.ListN.{take}
 use lib.Seq.{get_or-take}
 use borrow.Author.Tests.{eq-eqb, ne_eqb, eqb-true, eqb-false}
 use Rattle.ground.specs.Pick.{pick}
 use Rattle.ground.proofs.Pick.{pick_yes, pick_no}
+use Rattle.refusals.specs.Refusals.{number, number_of, refused_or}
+use Rattle.refusals.specs.declared.Refusal.{Refusal}
 use Rattle.octets.specs.Numbers.{octet_at, word_at}
-use Rattle.moments.specs.Moments.{is_never, is_ahead, past_due}
-use Rattle.moments.specs.declared.Moment.{Moment}
+use Rattle.moments.specs.Moments.{Moment, is_never, is_ahead, past_due}
 use Rattle.frame.specs.Read.{verdict}
 use Rattle.head.specs.Timers.{is_paused}
 use Rattle.units.specs.Units.{wire_time, pfc_time}
 use Rattle.recorder.specs.declared.Watch.{Watch}
 use Rattle.marks.specs.Marks.{started_at}
 use Rattle.recorder.specs.Watching.{Recorder, recorder_of, arrived_at, taken_at, taking_refusal}
-use Rattle.records.specs.declared.Record.{Record}
-use Rattle.records.specs.declared.Record.TheVariants.{StartData, Arrive, StartOther, StartPfc, TakeEffect, TakeOctets, Refused}
+use Rattle.records.specs.Records.{Asked, decoded}
+use Rattle.records.specs.declared.Record.TheVariants.{StartData, Arrive, StartOther, StartPfc, TakeEffect, TakeOctets}
+use Rattle.records.proofs.Decoding.{octets_some, octets_told}
 use Rattle.decisions.specs.Chains.{length_outside, start_data_number, arrive_number, start_other_number, start_pfc_number}
 use Rattle.rows.specs.Rows.{Lane, seen, put}
 use Rattle.bench_meaning.specs.State.{Frame, State, data_octets, priority_of, length_of}
@@ -28,36 +31,29 @@ use Rattle.bench_meaning.specs.Step.{after, address_a, pfc_now, effect_of, refus
 use Rattle.bench_meaning.specs.Step.{data_started, arrived, other_started, pfc_started, took_effect, octets_taken}
 use Rattle.bench_memory.specs.Memory.{Memory, memory_of, view_of, holding, data_width, pfc_width, Lent}
 use Rattle.bench_memory.specs.Answers.{memory_for, Answers}
-use Rattle.bench_state.specs.Answered.{ended_in, outcome_of, if_accepted, answered}
+use Rattle.bench_state.specs.Answered.{ended_in, bench_after, if_accepted}
 use Rattle.bench_state.specs.declared.Bench.{Bench}
-use Rattle.bench_state.specs.declared.Outcome.{Outcome}
-use Rattle.bench_state.specs.declared.Stepped.{Stepped}
+use Rattle.bench_state.proofs.Either.{after_is, own_answer}
 use Rattle.bench_memory.proofs.Places.{counted, stay, joined_lane, joins, oldest_of, left_lane, leaves}
 use Rattle.rows.proofs.Lanes.{oldest_seen}
 
-module _ (w : Watch) (m : Memory) (asked : Record) where
+module _ (w : Watch) (m : Memory) (asked : Asked) {number : ℕ} (is : number ≡ refusal_of w (view_of m) asked) where
   -- a refused record leaves the memory as it was
-  pub refused_answers : (number : ℕ) (told : Outcome) (then : Memory) → number ≡ refusal_of w (view_of m) asked → (number ≡ 0 → ⊥) →
-      told ≡ outcome_of number → then ≡ m → Answers w m asked told then
+  pub memory_kept : (number ≡ 0 → ⊥) → m ≡ memory_for w m asked
   unfolding memory_for
-  refused_answers number told then is nonzero same_outcome same =
-      record {
-        outcome_is = same_outcome ∙ ap outcome_of is;
-        memory_is = same ∙ sym (pick_no _ _ (ap (λ (k : ℕ). eqb k 0) (sym is) ∙ ne_eqb number 0 nonzero));
-      }
+  memory_kept some = sym (pick_no _ _ (ne_eqb (refusal_of w (view_of m) asked) 0 (λ none. some (is ∙ none))))
 
   -- an accepted one gives the memory that holds the next state
-  pub accepted_answers : (number : ℕ) (told : Outcome) (then : Memory) → number ≡ refusal_of w (view_of m) asked → number ≡ 0 →
-      told ≡ outcome_of number → then ≡ holding m (next_of w (view_of m) asked) → Answers w m asked told then
+  pub memory_next : number ≡ 0 → holding m (next_of w (view_of m) asked) ≡ memory_for w m asked
   unfolding memory_for
-  accepted_answers number told then is zero_number same_outcome holds =
-      record {
-        outcome_is = same_outcome ∙ ap outcome_of is;
-        memory_is = holds ∙ sym (pick_yes _ _ (eq-eqb (refusal_of w (view_of m) asked) 0 (sym is ∙ zero_number)));
-      }
+  memory_next none = sym (pick_yes _ _ (eq-eqb (refusal_of w (view_of m) asked) 0 (sym is ∙ none)))
+
+-- an answer by a number: it bears that number, and is made of it
+abbrev pub Told : Result Bench Refusal → ℕ → Bench → Type 0
+Told answer number next = (number_of answer ≡ number) × (answer ≡ refused_or number next)
 
 -- where each part is the next one if the record is accepted, and as it was if not, so is the memory
-module _ (w : Watch) (asked : Record) (bench next : Bench) (r r' : List (List ℕ)) (e s p o e' s' p' o' : List ℕ) where
+module _ (w : Watch) (asked : Asked) (bench next : Bench) (r r' : List (List ℕ)) (e s p o e' s' p' o' : List ℕ) where
   abbrev was : Memory
   was = memory_of bench r e s p o
 
@@ -67,23 +63,24 @@ module _ (w : Watch) (asked : Record) (bench next : Bench) (r r' : List (List �
 
   pub answers_by : (number : ℕ) → number ≡ refusal_of w (view_of was) asked →
       (number ≡ 0 → memory_of next r' e' s' p' o' ≡ holding was (next_of w (view_of was) asked)) →
-      {said : Stepped} {rooms : List (List ℕ)} {data_ends data_slots pfc_ends pfc_slots : List ℕ} → said ≡ answered number bench next →
-      rooms ≡ if_accepted number r' r → data_ends ≡ if_accepted number e' e → data_slots ≡ if_accepted number s' s →
+      {answer : Result Bench Refusal} {rooms : List (List ℕ)} {data_ends data_slots pfc_ends pfc_slots : List ℕ} →
+      Told answer number next → rooms ≡ if_accepted number r' r → data_ends ≡ if_accepted number e' e → data_slots ≡ if_accepted number s' s →
       pfc_ends ≡ if_accepted number p' p → pfc_slots ≡ if_accepted number o' o →
-      Answers w was asked said.outcome (memory_of said.bench rooms data_ends data_slots pfc_ends pfc_slots)
+      Answers w was asked answer (memory_of (bench_after answer bench) rooms data_ends data_slots pfc_ends pfc_slots)
   unfolding if_accepted pick
-  answers_by number is then {said} {rooms} {data_ends} {data_slots} {pfc_ends} {pfc_slots} is_said is_r is_e is_s is_p is_o =
-      go (eqb number 0) refl (λ i. memory_of (is_said i).bench (is_r i) (is_e i) (is_s i) (is_p i) (is_o i))
+  answers_by number is then {answer} {rooms} {data_ends} {data_slots} {pfc_ends} {pfc_slots} told is_r is_e is_s is_p is_o =
+      record {
+        number_is = told.0 ∙ is;
+        answer_is = own_answer number next bench answer told.1 ∙ ap (λ (n : ℕ). refused_or n (bench_after answer bench)) is;
+        memory_is = go (eqb number 0) refl (λ i. memory_of (after_is number next bench told.1 i) (is_r i) (is_e i) (is_s i) (is_p i) (is_o i));
+      }
     where
-      told : said.outcome ≡ outcome_of number
-      told = ap (λ (x : Stepped). x.outcome) is_said
-
-      go : (b : Bool) → eqb number 0 ≡ b → memory_of said.bench rooms data_ends data_slots pfc_ends pfc_slots ≡ by (eqb number 0) →
-          Answers w was asked said.outcome (memory_of said.bench rooms data_ends data_slots pfc_ends pfc_slots)
+      go : (b : Bool) → eqb number 0 ≡ b →
+          memory_of (bench_after answer bench) rooms data_ends data_slots pfc_ends pfc_slots ≡ by (eqb number 0) →
+          memory_of (bench_after answer bench) rooms data_ends data_slots pfc_ends pfc_slots ≡ memory_for w was asked
       go true is_zero parts =
-          let none = eqb-true number 0 is_zero in
-          accepted_answers w was asked number _ _ is none told (parts ∙ ap by is_zero ∙ then none)
-      go false not_zero parts = refused_answers w was asked number _ _ is (eqb-false number 0 not_zero) told (parts ∙ ap by not_zero)
+          let none = eqb-true number 0 is_zero in parts ∙ ap by is_zero ∙ then none ∙ memory_next w was asked is none
+      go false not_zero parts = parts ∙ ap by not_zero ∙ memory_kept w was asked is (eqb-false number 0 not_zero)
 
 -- what a memory is made of beside its directions, with these
 abbrev pub memory_with : State → Lane → Lane → Memory
@@ -107,7 +104,7 @@ module _ (w : Watch) (m : Memory) (lent : Lent m) where
   -- kind 02
   pub start_data_number_lem : (priority size : ℕ) →
       start_data_number priority (length_outside w.settings.largest size) (ltb m.clock m.to_b.free) (is_paused m.head priority) m.to_b.count ≡
-      refusal_of w (view_of m) (StartData priority size)
+      refusal_of w (view_of m) (Ok (StartData priority size))
   unfolding refusal_of view_of seen
   start_data_number_lem priority size =
       ap (start_data_number priority (length_outside w.settings.largest size) (ltb m.clock m.to_b.free) (is_paused m.head priority))
@@ -115,13 +112,13 @@ module _ (w : Watch) (m : Memory) (lent : Lent m) where
 
   pub start_data_memory : (priority size : ℕ) → m.to_b.count < 128 →
       memory_with (view_of m) (joined_lane m.to_b (after m.clock (wire_time size)) (data_octets priority size)) m.to_a ≡
-      holding m (next_of w (view_of m) (StartData priority size))
+      holding m (next_of w (view_of m) (Ok (StartData priority size)))
   unfolding next_of data_started view_of seen
   start_data_memory priority size few =
       holds m (data_started (view_of m) priority size) (joins data_width m.to_b lent.to_b _ _ few refl) to_a_stays
 
   -- kind 03
-  pub arrive_number_lem : ended_in m.to_b.count m.to_b.ends m.clock ≡ refusal_of w (view_of m) Arrive
+  pub arrive_number_lem : ended_in m.to_b.count m.to_b.ends m.clock ≡ refusal_of w (view_of m) (Ok Arrive)
   unfolding ended_in refusal_of view_of seen
   arrive_number_lem =
       ap (λ (e : Moment). arrive_number (is_ahead e m.clock)) (oldest_seen data_width m.to_b)
@@ -133,7 +130,7 @@ module _ (w : Watch) (m : Memory) (lent : Lent m) where
   pub arrive_memory : (left : ℕ) (recorder : Recorder) → m.to_b.count ≡ left + 1 →
       recorder ≡ arrived_at w (recorder_of m.rooms m.marks) (octet_at m.to_b.slots 0) (word_at m.to_b.slots 1) m.clock →
       record { clock = m.clock; head = m.head; marks = recorder.marks; rooms = recorder.rooms; to_b = left_lane data_width m.to_b left; to_a = m.to_a } ≡
-      holding m (next_of w (view_of m) Arrive)
+      holding m (next_of w (view_of m) (Ok Arrive))
   unfolding next_of arrived view_of seen
   arrive_memory left recorder is is_recorder =
       let found = leaves data_width m.to_b lent.to_b left is in
@@ -156,20 +153,20 @@ module _ (w : Watch) (m : Memory) (lent : Lent m) where
   pub start_other_number_lem : (size : ℕ) →
       start_other_number (length_outside w.settings.largest size) (ltb m.clock m.to_a.free)
       (past_due m.marks.due w.kept.generation.0 m.clock) ≡
-      refusal_of w (view_of m) (StartOther size)
+      refusal_of w (view_of m) (Ok (StartOther size))
   unfolding refusal_of view_of seen
   start_other_number_lem size = refl
 
   pub start_other_memory : (size : ℕ) →
       memory_with (view_of m) m.to_b (record { free = after m.clock (wire_time size); count = m.to_a.count; ends = m.to_a.ends; slots = m.to_a.slots }) ≡
-      holding m (next_of w (view_of m) (StartOther size))
+      holding m (next_of w (view_of m) (Ok (StartOther size)))
   unfolding next_of other_started view_of put
   start_other_memory size =
       holds m (other_started (view_of m) size) to_b_stays
       (ap (λ (l : Lane). record { free = after m.clock (wire_time size); count = l.count; ends = l.ends; slots = l.slots }) to_a_stays)
 
   -- kind 05
-  pub start_pfc_number_lem : start_pfc_number (is_never m.marks.due) (ltb m.clock m.to_a.free) m.to_a.count ≡ refusal_of w (view_of m) StartPfc
+  pub start_pfc_number_lem : start_pfc_number (is_never m.marks.due) (ltb m.clock m.to_a.free) m.to_a.count ≡ refusal_of w (view_of m) (Ok StartPfc)
   unfolding refusal_of view_of seen
   start_pfc_number_lem =
       ap (start_pfc_number (is_never m.marks.due) (ltb m.clock m.to_a.free)) (counted pfc_width m.to_a lent.to_a)
@@ -182,12 +179,12 @@ module _ (w : Watch) (m : Memory) (lent : Lent m) where
         rooms = m.rooms;
         to_b = m.to_b;
         to_a = joined_lane m.to_a (after m.clock pfc_time) (pfc_now w m.marks);
-      } ≡ holding m (next_of w (view_of m) StartPfc)
+      } ≡ holding m (next_of w (view_of m) (Ok StartPfc))
   unfolding next_of pfc_started view_of seen
   start_pfc_memory few = holds m (pfc_started w (view_of m)) to_b_stays (joins pfc_width m.to_a lent.to_a _ _ few refl)
 
   -- kind 06
-  pub take_effect_number : ended_in m.to_a.count m.to_a.ends m.clock ≡ refusal_of w (view_of m) TakeEffect
+  pub take_effect_number : ended_in m.to_a.count m.to_a.ends m.clock ≡ refusal_of w (view_of m) (Ok TakeEffect)
   unfolding ended_in refusal_of view_of seen
   take_effect_number =
       ap (λ (e : Moment). arrive_number (is_ahead e m.clock)) (oldest_seen pfc_width m.to_a)
@@ -200,7 +197,7 @@ module _ (w : Watch) (m : Memory) (lent : Lent m) where
         rooms = m.rooms;
         to_b = m.to_b;
         to_a = left_lane pfc_width m.to_a left;
-      } ≡ holding m (next_of w (view_of m) TakeEffect)
+      } ≡ holding m (next_of w (view_of m) (Ok TakeEffect))
   unfolding next_of took_effect view_of seen
   take_effect_memory left is =
       let found = leaves pfc_width m.to_a lent.to_a left is in
@@ -209,23 +206,31 @@ module _ (w : Watch) (m : Memory) (lent : Lent m) where
 
   -- kind 07
   pub take_octets_number : (priority octets : ℕ) →
-      taking_refusal w (recorder_of m.rooms m.marks) priority octets ≡ refusal_of w (view_of m) (TakeOctets priority octets)
+      taking_refusal w (recorder_of m.rooms m.marks) priority octets ≡ refusal_of w (view_of m) (Ok (TakeOctets priority octets))
   unfolding refusal_of view_of
   take_octets_number priority octets = refl
 
   pub take_octets_memory : (priority octets : ℕ) →
       recording (taken_at w (recorder_of m.rooms m.marks) priority octets m.clock) m.to_b ≡
-      holding m (next_of w (view_of m) (TakeOctets priority octets))
+      holding m (next_of w (view_of m) (Ok (TakeOctets priority octets)))
   unfolding next_of octets_taken view_of
   take_octets_memory priority octets = holds m (octets_taken w (view_of m) priority octets) to_b_stays to_a_stays
 
--- octets that are refused before anything is asked
-pub octets_answers : (w : Watch) (m : Memory) (number : ℕ) (told : Outcome) (then : Memory) → (number ≡ 0 → ⊥) → told ≡ outcome_of number → then ≡ m →
-    Answers w m (Refused number) told then
-unfolding refusal_of
-octets_answers w m number told then nonzero same_outcome same = refused_answers w m (Refused number) number told then refl nonzero same_outcome same
-
 -- an answer to what is asked is one to whatever asks the same
-pub answers_asked : {w : Watch} {m then : Memory} {told : Outcome} {asked same : Record} → same ≡ asked → Answers w m asked told then →
-    Answers w m same told then
-answers_asked {w} {m} {then} {told} is answers = subst (λ (a : Record). Answers w m a told then) (sym is) answers
+pub answers_asked : {w : Watch} {m then : Memory} {answer : Result Bench Refusal} {asked same : Asked} → same ≡ asked → Answers w m asked answer then →
+    Answers w m same answer then
+answers_asked {w} {m} {then} {answer} is answers = subst (λ (a : Asked). Answers w m a answer then) (sym is) answers
+
+-- octets that are refused before anything is asked
+module _ (w : Watch) (bench : Bench) (r : List (List ℕ)) (e s p o : List ℕ) (octets : List ℕ) where
+  pub octets_answers : (refusal : Refusal) (answer : Result Bench Refusal) → Err refusal ≡ decoded octets → IsErrAnd answer (λ told. told ≡ refusal) →
+      Answers w (memory_of bench r e s p o) (decoded octets) answer (memory_of (bench_after answer bench) r e s p o)
+  unfolding refusal_of
+  octets_answers refusal (Ok next) is told = absurd told
+  octets_answers refusal (Err same) is told =
+      answers_asked (sym is)
+      (record {
+        number_is = ap number told;
+        answer_is = ap Err told ∙ octets_told octets is bench;
+        memory_is = memory_kept w (memory_of bench r e s p o) (Err refusal) refl (octets_some octets is);
+      })

@@ -5,12 +5,15 @@ use mathlib.Core.Path.{◌≡◌, refl, sym, ap, ◌∙◌}
 use mathlib.Core.Bool.{Bool, true, false}
 use mathlib.Core.List.{List}
 use native.Mathlib.Omega.{arith}
+use Rattle.std.specs.Prelude.{Result, Ok}
 use lib.Dec.{ltb}
 use borrow.Author.Tests.{ltb-true, ltb-false, lt-ltb, le-ltb}
 use Rattle.ground.specs.First.{first_of}
 use Rattle.ground.specs.Pick.{pick}
 use Rattle.ground.proofs.Pick.{pick_yes}
 use Rattle.units.specs.Units.{within64}
+use Rattle.refusals.specs.Refusals.{number_of}
+use Rattle.refusals.specs.declared.Refusal.{Refusal}
 use Rattle.recorder.specs.declared.Watch.{Watch}
 use Rattle.marks.specs.Marks.{refresh_of}
 use Rattle.records.specs.declared.Record.TheVariants.{Wait}
@@ -21,8 +24,8 @@ use Rattle.walk.specs.declared.Walk.{Walk}
 use Rattle.bench_meaning.specs.Step.{due_then, overrun, refusal_of, next_of, waited}
 use Rattle.bench_memory.specs.Memory.{Memory, memory_of, view_of, holding, data_width, pfc_width, Lent}
 use Rattle.bench_memory.specs.Answers.{Answers}
-use Rattle.waiting.specs.Waiting.{walk_from, after_walk, overrun_by, late_after, waited_by}
-use Rattle.bench_state.specs.declared.Stepped.{Stepped}
+use Rattle.waiting.specs.Waiting.{walk_from, after_walk, overrun_by, late_after, waiting_number, waited_by}
+use Rattle.bench_state.specs.Answered.{bench_after}
 use Rattle.bench_state.proofs.Either.{either_same}
 use Rattle.bench_state.specs.declared.Bench.{Bench}
 use Rattle.bench_memory.proofs.Answered.{answers_by, holds, to_b_stays, to_a_stays}
@@ -69,7 +72,7 @@ module _ (w : Watch) (bench : Bench) (r : List (List ℕ)) (e s p o : List ℕ) 
         )
         refl
 
-    wait_memory : Lent m → memory_of (after_walk bench (walk_from w bench n)) r e s p o ≡ holding m (next_of w (view_of m) (Wait n))
+    wait_memory : Lent m → memory_of (after_walk bench (walk_from w bench n)) r e s p o ≡ holding m (next_of w (view_of m) (Ok (Wait n)))
     unfolding next_of waited view_of after_walk
     wait_memory lent =
         ap (λ (k : Walk). memory_of (after_walk bench k) r e s p o) walk_is ∙
@@ -79,7 +82,7 @@ module _ (w : Watch) (bench : Bench) (r : List (List ℕ)) (e s p o : List ℕ) 
   late = late_after w bench e p (walk_from w bench n)
 
   -- the number that the code finds is the definition's
-  wait_number_lem : wait_number (within64 (bench.clock.0 + n)) late ≡ refusal_of w (view_of m) (Wait n)
+  wait_number_lem : wait_number (within64 (bench.clock.0 + n)) late ≡ refusal_of w (view_of m) (Ok (Wait n))
   unfolding refusal_of view_of wait_number first_of
   wait_number_lem =
       ap (λ (b : Bool). pick {A = ℕ} b 41 (pick late 40 0)) (cut_far (bench.clock.0 + n)) ∙ go (ltb last_moment (bench.clock.0 + n)) refl
@@ -90,11 +93,11 @@ module _ (w : Watch) (bench : Bench) (r : List (List ℕ)) (e s p o : List ℕ) 
       go false near =
           ap (λ (b : Bool). pick {A = ℕ} false 41 (pick b 40 0)) (late_is (ltb-false last_moment (bench.clock.0 + n) near))
 
-  pub wait_answers : Lent m → {answer : Stepped} → answer ≡ waited_by w bench e p n →
-      Answers w m (Wait n) answer.outcome (memory_of answer.bench r e s p o)
-  unfolding waited_by refusal_of view_of
-  wait_answers lent is =
+  pub wait_answers : Lent m → {answer : Result Bench Refusal} → number_of answer ≡ waiting_number w bench e p n → answer ≡ waited_by w bench e p n →
+      Answers w m (Ok (Wait n)) answer (memory_of (bench_after answer bench) r e s p o)
+  unfolding waited_by waiting_number refusal_of view_of
+  wait_answers lent is_number is =
       let number = wait_number (within64 (bench.clock.0 + n)) late in
-      answers_by w (Wait n) bench (after_walk bench (walk_from w bench n)) r r e s p o e s p o number wait_number_lem
+      answers_by w (Ok (Wait n)) bench (after_walk bench (walk_from w bench n)) r r e s p o e s p o number wait_number_lem
       (λ none. wait_memory (near_passed (bench.clock.0 + n) _ (sym wait_number_lem ∙ none)) lent)
-      is (either_same number r) (either_same number e) (either_same number s) (either_same number p) (either_same number o)
+      (is_number, is) (either_same number r) (either_same number e) (either_same number s) (either_same number p) (either_same number o)

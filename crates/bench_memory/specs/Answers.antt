@@ -1,21 +1,22 @@
--- What one step answers on a memory: the outcome, and the memory after it.
-use Rattle.std.specs.Prelude.{ℕ, ◌≡◌, List, eqb}
+-- What one step answers on a memory: a refusal or what goes by value, and the memory after it.
+use Rattle.std.specs.Prelude.{ℕ, ◌≡◌, List, Result, eqb}
 use Rattle.ground.specs.Pick.{pick}
+use Rattle.refusals.specs.Refusals.{number_of, refused_or}
+use Rattle.refusals.specs.declared.Refusal.{Refusal}
 use Rattle.recorder.specs.declared.Watch.{Watch}
-use Rattle.records.specs.Records.{decoded}
-use Rattle.records.specs.declared.Record.{Record}
+use Rattle.records.specs.Records.{Asked, decoded}
 use Rattle.bench_meaning.specs.Step.{refusal_of, next_of}
-use Rattle.bench_state.specs.Answered.{outcome_of}
-use Rattle.bench_state.specs.declared.Outcome.{Outcome}
-use Rattle.bench_memory.specs.Memory.{Memory, view_of, holding, fitting}
+use Rattle.bench_state.specs.declared.Bench.{Bench}
+use Rattle.bench_memory.specs.Memory.{Memory, bench_of, view_of, holding, fitting}
 
 -- the memory after a record is asked: the next state, or all as it was
-unfoldable pub memory_for : Watch → Memory → Record → Memory
+unfoldable pub memory_for : Watch → Memory → Asked → Memory
 memory_for w m asked = pick (eqb (refusal_of w (view_of m) asked) 0) (holding m (next_of w (view_of m) asked)) m
 
--- a step's outcome and memory
-pub record Answers (w : Watch) (m : Memory) (asked : Record) (outcome : Outcome) (then : Memory) : Type 0 where
-  pub outcome_is : outcome ≡ outcome_of (refusal_of w (view_of m) asked)
+-- a step's number, its answer and its memory
+pub record Answers (w : Watch) (m : Memory) (asked : Asked) (answer : Result Bench Refusal) (then : Memory) : Type 0 where
+  pub number_is : number_of answer ≡ refusal_of w (view_of m) asked
+  pub answer_is : answer ≡ refused_or (refusal_of w (view_of m) asked) (bench_of then)
   pub memory_is : then ≡ memory_for w m asked
 
 -- the number of a record's octets on any memory: 36 where it lacks the places

@@ -34,6 +34,20 @@ memory_of bench rooms data_ends data_slots pfc_ends pfc_slots =
       to_a = lane_of bench.to_a pfc_ends pfc_slots;
     }
 
+-- and what goes by value of a lane and of a memory
+abbrev pub direction_of : Lane → Direction
+direction_of lane = record { free = record { 0 = lane.free }; count = lane.count }
+
+abbrev pub bench_of : Memory → Bench
+bench_of m =
+    record {
+      clock = record { 0 = m.clock };
+      head = m.head;
+      marks = m.marks;
+      to_b = direction_of m.to_b;
+      to_a = direction_of m.to_a;
+    }
+
 -- the octets of a slot: of a data frame the body that started it, of a PFC frame its 60
 abbrev pub data_width : ℕ
 data_width = 3

@@ -1,3 +1,4 @@
 -- Laws of a run.
 pub mod Decided
 pub mod Running
+pub mod Told

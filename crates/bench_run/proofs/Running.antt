@@ -6,27 +6,30 @@ use native.Mathlib.Omega.{arith}
 use lib.Dec.{eqb}
 use lib.ListN.{length, drop}
 use borrow.Author.Tests.{ltb-false, eq-eqb, ne_eqb}
+use Rattle.std.specs.Prelude.{⊤, Result, Ok, Err}
 use Rattle.ground.specs.First.{GivenExactly, are_apart, is_among, test_at}
 use Rattle.ground.specs.Pick.{pick}
 use Rattle.ground.proofs.First.{first_given}
 use Rattle.ground.proofs.Pick.{pick_yes, pick_no}
+use Rattle.refusals.specs.Refusals.{numbered}
+pub use Rattle.refusals.specs.Refusals.{refused_or, numbered_in}
+use Rattle.refusals.specs.declared.Refusal.{Refusal}
+use Rattle.refusals.proofs.Refused.{err_is, none_by}
 use Rattle.octets.specs.Numbers.{octet_at}
 use Rattle.room_to_keep.specs.declared.Kept.{Kept}
 use Rattle.settings.specs.Settings.{settling}
-use Rattle.settings.specs.declared.Settling.{Settling}
-use Rattle.settings.specs.declared.Settling.TheVariants as Settled
 use Rattle.bench_meaning.specs.declared.Report.{Report}
 use Rattle.bench_meaning.specs.Run.{follow_of, settings_in, refused_report, watch_with, settled_by, settled_of, input_order, input_refusal, run_of}
 
 -- settings that are whole: what settling them says of the report
-pub settled_refused : (input : List ℕ) (number : ℕ) → settling (settings_in input) ≡ Settled.Refused number → refused_report number ≡ settled_of input
+pub settled_refused : (input : List ℕ) (refusal : Refusal) → settling (settings_in input) ≡ Err refusal → refused_report refusal ≡ settled_of input
 unfolding settled_by
-settled_refused input number is = sym (ap (λ (x : Settling). settled_by x input) is)
+settled_refused input refusal is = sym (ap (λ (x : Result Kept Refusal). settled_by x input) is)
 
-pub settled_accepted : (input : List ℕ) (room : Kept) → settling (settings_in input) ≡ Settled.Accepted room →
+pub settled_accepted : (input : List ℕ) (room : Kept) → settling (settings_in input) ≡ Ok room →
     follow_of (watch_with (settings_in input) room) (drop 58 input) ≡ settled_of input
 unfolding settled_by
-settled_accepted input room is = sym (ap (λ (x : Settling). settled_by x input) is)
+settled_accepted input room is = sym (ap (λ (x : Result Kept Refusal). settled_by x input) is)
 
 -- none of 45, 44 and 31: the settings are whole
 pub whole_settings : (kind size : ℕ) → input_refusal kind size ≡ 0 → 58 ≤ size
@@ -40,13 +43,18 @@ unfolding input_refusal are_apart is_among pick
 input_given kind size = first_given (input_order kind size) refl
 
 -- what a run answers by the input's refusal
-pub run_refused : (input : List ℕ) (number : ℕ) {said : Report} → number ≡ input_refusal (octet_at input 0) (length input) → (number ≡ 0 → ⊥) →
-    said ≡ refused_report number → said ≡ run_of input
-unfolding run_of
-run_refused input number is some told =
-    told ∙ ap refused_report is ∙ sym (pick_no _ _ (ap (λ (k : ℕ). eqb k 0) (sym is) ∙ ne_eqb number 0 some))
+module _ (input : List ℕ) {given : ℕ} (is : given ≡ input_refusal (octet_at input 0) (length input)) where
+  pub run_refused : {refusal : Refusal} {report : Report} → Err refusal ≡ refused_or {A = ⊤} given tt → report ≡ refused_report refusal →
+      report ≡ run_of input
+  unfolding run_of
+  run_refused refused_by told =
+      let by = err_is given tt refused_by in
+      told ∙ ap refused_report (by.1 ∙ ap numbered is) ∙ sym (pick_no _ _ (ap (λ (k : ℕ). eqb k 0) (sym is) ∙ ne_eqb given 0 by.0))
 
-pub run_settled : (input : List ℕ) (number : ℕ) {said : Report} → number ≡ input_refusal (octet_at input 0) (length input) → number ≡ 0 →
-    said ≡ settled_of input → said ≡ run_of input
-unfolding run_of
-run_settled input number is none told = told ∙ sym (pick_yes _ _ (ap (λ (k : ℕ). eqb k 0) (sym is) ∙ eq-eqb number 0 none))
+  pub run_settled : {report : Report} {passed : ⊤} → Ok passed ≡ refused_or given tt → report ≡ settled_of input → report ≡ run_of input
+  unfolding run_of
+  run_settled passes told = told ∙ sym (pick_yes _ _ (eq-eqb _ 0 (none_by is passes)))
+
+  -- none of 45, 44 and 31: the settings are whole
+  pub whole_input : {passed : ⊤} → Ok passed ≡ refused_or given tt → 58 ≤ length input
+  whole_input passes = whole_settings (octet_at input 0) (length input) (none_by is passes)

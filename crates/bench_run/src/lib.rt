@@ -2,11 +2,14 @@
 #![tactic(auto)]
 
 ghost use Rattle.std.specs.Prelude.{◌≡◌, ◌≤◌, length};
-ghost use Rattle.bench_meaning.specs.Run.{settings_in, refused_report, is_missing, input_refusal, settled_of, run_of};
+ghost use Rattle.ground.specs.First.{first_of};
+ghost use Rattle.refusals.specs.Refusals.{refused_or};
+ghost use Rattle.bench_meaning.specs.Run.{settings_in, refused_report, is_missing, input_order, settled_of, run_of};
 
 use bench_meaning::Report;
 use recorder::Watch;
-use settings::{Settings, Settling};
+use refusals::Refusal;
+use settings::Settings;
 use units::{BitTimes, OctetTimes};
 
 // The most octets that an input has.
@@ -20,16 +23,7 @@ const SETTINGS_LENGTH: usize = 58;
 fn rooms_in(input: &[u8]) -> [u64; 8]
     ensures { result ≡ (settings_in input.now).rooms }
 {
-    [
-        octets::long_at(input, 26),
-        octets::long_at(input, 30),
-        octets::long_at(input, 34),
-        octets::long_at(input, 38),
-        octets::long_at(input, 42),
-        octets::long_at(input, 46),
-        octets::long_at(input, 50),
-        octets::long_at(input, 54),
-    ]
+    std::array::from_fn(|n| octets::long_at(input, 26 + 4 * n))
 }
 
 // The settings in the octets of a record of kind 00; octets past the end count as 0.
@@ -39,7 +33,7 @@ fn settings_in(input: &[u8]) -> Settings
     let rooms = rooms_in(input);
     Settings {
         enabled: octets::octet_at(input, 1),
-        largest: octets::word_at(input, 2) as u64,
+        largest: u64::from(octets::word_at(input, 2)),
         generation: BitTimes(octets::long_at(input, 4)),
         request_path: BitTimes(octets::long_at(input, 8)),
         data_path: BitTimes(octets::long_at(input, 12)),
@@ -51,13 +45,13 @@ fn settings_in(input: &[u8]) -> Settings
 }
 
 // The report where no settings were accepted: line 1 stands alone.
-fn refused_report(number: u8) -> Report
-    ensures { result ≡ refused_report number }
+fn refused_report(refusal: Refusal) -> Report
+    ensures { result ≡ refused_report refusal }
 {
     Report {
         steps: 0,
         time: OctetTimes(0),
-        refusal: number,
+        refusal: Some(refusal),
         at: 0,
         enabled: 0,
         held: [0u64; 8],
@@ -72,27 +66,24 @@ fn refused_report(number: u8) -> Report
 fn is_missing(kind: u8, size: usize) -> bool
     ensures { result ≡ is_missing kind size }
 {
-    if size < 1 {
-        return true;
-    }
-    kind != 0
+    size < 1 || kind != 0
 }
 
-// 45, 44 and 31 of an input by its first octet and its length, in this order; 0 where none of them holds.
-#[tactic(auto, unfolding(bench_meaning::specs::Run::input_refusal, ground::specs::First::first_of, ground::specs::Pick::pick))]
-fn input_refusal(kind: u8, size: usize) -> u8
-    ensures { result ≡ input_refusal kind size }
+// 45, 44 and 31 of an input by its first octet and its length, in this order.
+#[tactic(auto, unfolding(crate::proofs::Running::refused_or, crate::proofs::Running::numbered_in, ground::specs::Pick::pick, ground::specs::First::first_of))]
+fn may_run(kind: u8, size: usize) -> Result<(), Refusal>
+    ensures { result ≡ refused_or (first_of (input_order kind size)) tt }
 {
     if MOST_INPUT < size {
-        return 45;
+        return Err(Refusal::InputLong);
     }
     if is_missing(kind, size) {
-        return 44;
+        return Err(Refusal::Settings);
     }
     if size < SETTINGS_LENGTH {
-        return 31;
+        return Err(Refusal::BodyShort);
     }
-    0
+    Ok(())
 }
 
 // Settings of 58 octets or more, and what follows them.
@@ -102,24 +93,18 @@ fn settled(input: &[u8]) -> Report
     ensures { result ≡ settled_of input.now }
 {
     let settings = settings_in(input);
-    let settling = settings::settle(settings);
-    match settling {
-        Settling::Refused(number) => refused_report(number),
-        Settling::Accepted(kept) => {
-            let watch = Watch { settings, kept };
-            following::follow(watch, &input[58..])
-        }
+    match settings::settle(settings) {
+        Ok(kept) => following::follow(Watch { settings, kept }, &input[58..]),
+        Err(refusal) => refused_report(refusal),
     }
 }
 
 // The run over a whole input of at most 65,536 octets; one that is longer is refused, whatever stands in it.
-#[tactic(auto, using(crate::proofs::Running::whole_settings, crate::proofs::Running::run_refused, crate::proofs::Running::run_settled))]
 pub fn run(input: &[u8]) -> Report
     ensures { result ≡ run_of input.now }
 {
-    let number = input_refusal(octets::octet_at(input, 0), input.len());
-    if number != 0 {
-        return refused_report(number);
+    match may_run(octets::octet_at(input, 0), input.len()) {
+        Err(refusal) => refused_report(refusal),
+        Ok(()) => settled(input),
     }
-    settled(input)
 }

@@ -1,6 +1,7 @@
 -- What a step answers by value, and what it does to lent arrays: all of it where the number is 0, and nothing where it is not.
-use Rattle.std.specs.Prelude.{ℕ, ◌+◌, ◌*◌, ◌-◌, Bool, List, ◌≡◌, ltb, eqb, length, set}
+use Rattle.std.specs.Prelude.{ℕ, ◌+◌, ◌*◌, ◌-◌, Bool, List, Result, Ok, Err, ◌≡◌, ltb, eqb, length, set}
 use Rattle.ground.specs.Pick.{pick}
+use Rattle.refusals.specs.declared.Refusal.{Refusal}
 use Rattle.head.specs.declared.Head.{Head}
 use Rattle.marks.specs.declared.Marks.{Marks}
 use Rattle.moments.specs.Moments.{is_ahead}
@@ -9,22 +10,11 @@ use Rattle.rows.specs.Rows.{oldest_in, written, shifted}
 use Rattle.rows.specs.declared.Direction.{Direction}
 use Rattle.units.specs.declared.OctetTimes.{OctetTimes}
 use Rattle.bench_state.specs.declared.Bench.{Bench}
-use Rattle.bench_state.specs.declared.Outcome.{Outcome}
-use Rattle.bench_state.specs.declared.Outcome.TheVariants.{Accepted, Refused}
-use Rattle.bench_state.specs.declared.Stepped.{Stepped}
 
--- document 01's number of an outcome: the refusal's, or 0
-unfoldable pub number_of : Outcome → ℕ
-number_of Accepted = 0
-number_of (Refused number) = number
-
--- the outcome of a record with a number
-unfoldable pub outcome_of : ℕ → Outcome
-outcome_of number = pick (eqb number 0) Accepted (Refused number)
-
--- the outcome of a number, and what goes by value
-abbrev pub said : ℕ → Bench → Stepped
-said number bench = record { outcome = outcome_of number; bench = bench }
+-- what goes by value after a step: what it answers, or what went before where it is refused
+abbrev pub bench_after : Result Bench Refusal → Bench → Bench
+bench_after (Ok next) before = next
+bench_after (Err refusal) before = before
 
 -- "the wire is busy" until the moment from which it is free
 abbrev pub busy_until : ℕ → ℕ → Bool
@@ -37,10 +27,6 @@ ended_in count ends clock = arrive_number (is_ahead (oldest_in count ends) clock
 -- what a value is after a record with this number: another where it is accepted, and as it was where it is refused
 unfoldable pub if_accepted {ℓ} : {A : Type ℓ} → ℕ → A → A → A
 if_accepted number next before = pick (eqb number 0) next before
-
--- a step's answer
-abbrev pub answered : ℕ → Bench → Bench → Stepped
-answered number before next = said number (if_accepted number next before)
 
 -- what goes by value with other marks, another head, or another direction
 abbrev pub with_marks : Bench → Marks → Bench

@@ -1,26 +1,22 @@
 // One record of the bench.
 ghost use Rattle.std.specs.Prelude.{◌≡◌, length};
 ghost use Rattle.records.specs.Records.{decoded};
-ghost use Rattle.bench_state.specs.Answered.{number_of, outcome_of};
-ghost use Rattle.bench_memory.specs.Memory.{memory_of, Lent, fits_in};
+ghost use Rattle.refusals.specs.Refusals.{number_of, refused_or};
+ghost use Rattle.bench_state.specs.Answered.{bench_after};
+ghost use Rattle.bench_memory.specs.Memory.{memory_of, bench_of, Lent, fits_in};
 ghost use Rattle.bench_memory.specs.Answers.{Answers, step_number, step_memory};
 
-use bench_state::{Bench, Stepped};
+use bench_state::Bench;
 use recorder::Watch;
 use records::Record;
+use refusals::Refusal;
 
 // Whether arrays of these sizes have the 128 places of a direction, its octets in slots of this width, and no more are under way.
 #[tactic(auto, using(ground::proofs::Tests::tests), unfolding(bench_memory::specs::Memory::fits_in, ground::specs::Pick::pick))]
 fn fits(count: u64, ends: usize, slots: usize, width: usize) -> bool
     ensures { result ≡ fits_in width count ends slots }
 {
-    if 128 < count {
-        return false;
-    }
-    if ends < 128 {
-        return false;
-    }
-    width <= slots / 128
+    count <= 128 && 128 <= ends && width <= slots / 128
 }
 
 // One record on arrays that have the places.
@@ -33,16 +29,16 @@ fn asked(
     pfc_ends: &mut [u64],
     pfc_slots: &mut [u8],
     record: &[u8],
-) -> Stepped
+) -> Result<Bench, Refusal>
     requires { Lent (memory_of bench numbers.old data_ends.old data_slots.old pfc_ends.old pfc_slots.old) }
     ensures { Answers watch
         (memory_of bench numbers.old data_ends.old data_slots.old pfc_ends.old
         pfc_slots.old)
-        (decoded «record».now) result.outcome
-        (memory_of result.bench numbers.new data_ends.new data_slots.new pfc_ends.new
+        (decoded «record».now) result
+        (memory_of (bench_after result bench) numbers.new data_ends.new data_slots.new pfc_ends.new
         pfc_slots.new) }
 {
-    let asked = records::decode(record);
+    let asked = records::decode(record)?;
     match asked {
         Record::Wait(n) => waiting::wait_for(watch, bench, data_ends, pfc_ends, n),
         Record::StartData(priority, length) => {
@@ -55,7 +51,6 @@ fn asked(
         Record::TakeOctets(priority, count) => {
             arriving::take_octets(watch, bench, numbers, priority, count)
         }
-        Record::Refused(number) => bench_state::refused(number, bench),
     }
 }
 
@@ -71,29 +66,32 @@ pub fn step(
     pfc_ends: &mut [u64],
     pfc_slots: &mut [u8],
     record: &[u8],
-) -> Stepped
-    ensures { (number_of result.outcome ≡ step_number watch
+) -> Result<Bench, Refusal>
+    ensures number { number_of result ≡ step_number watch
+        (memory_of bench numbers.old data_ends.old data_slots.old pfc_ends.old
+        pfc_slots.old)
+        «record».now }
+    ensures answer { result ≡ refused_or
+        (step_number watch
         (memory_of bench numbers.old data_ends.old data_slots.old pfc_ends.old
         pfc_slots.old)
         «record».now)
-        × (result.outcome ≡ outcome_of (step_number watch
+        (bench_of (step_memory watch
         (memory_of bench numbers.old data_ends.old data_slots.old pfc_ends.old
         pfc_slots.old)
-        «record».now))
-        × (memory_of result.bench numbers.new data_ends.new data_slots.new pfc_ends.new
+        «record».now)) }
+    ensures memory { memory_of (bench_after result bench) numbers.new data_ends.new data_slots.new pfc_ends.new
         pfc_slots.new
         ≡ step_memory watch
         (memory_of bench numbers.old data_ends.old data_slots.old pfc_ends.old
         pfc_slots.old)
-        «record».now) }
+        «record».now }
 {
-    let to_b = bench.to_b;
-    let to_a = bench.to_a;
-    if !fits(to_b.count, data_ends.len(), data_slots.len(), 3) {
-        return bench_state::refused(36, bench);
+    if !fits(bench.to_b.count, data_ends.len(), data_slots.len(), 3) {
+        return Err(Refusal::UnderWay);
     }
-    if !fits(to_a.count, pfc_ends.len(), pfc_slots.len(), 60) {
-        return bench_state::refused(36, bench);
+    if !fits(bench.to_a.count, pfc_ends.len(), pfc_slots.len(), 60) {
+        return Err(Refusal::UnderWay);
     }
     asked(
         watch, bench, numbers, data_ends, data_slots, pfc_ends, pfc_slots, record,

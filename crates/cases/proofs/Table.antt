@@ -11,7 +11,8 @@ use Rattle.ground.specs.Eight.{some}
 use Rattle.ground.specs.Table.{all, same}
 use Rattle.units.specs.Units.{octets_of_bits}
 use Rattle.frame_build.specs.Cases.{frame_cases, enabled_in, frame_with_vector}
-use Rattle.frame.specs.Read.{is_accepted, is_control, is_elsewhere, is_other, is_outside, order_by, taken, verdict, verdict_by}
+use Rattle.refusals.specs.Refusals.{refused_or}
+use Rattle.frame.specs.Read.{is_accepted, is_control, is_elsewhere, is_other, order_by, taken, verdict}
 use Rattle.head.specs.Cases.{head_cases}
 use Rattle.headroom_sum.specs.Cases.{example004, item_of, headroom_cases}
 use Rattle.headroom_sum.specs.Link.{link_bits, link_bits_before}
@@ -47,7 +48,7 @@ document_cases = frame_cases ++ head_cases ++ row_cases ++ headroom_cases ++ sam
 
 pub every_case_holds : all document_cases ≡ true
 unfolding document_cases same_example all same some pick frame_cases row_cases headroom_cases enabled_in frame_with_vector
-    first_of verdict verdict_by taken order_by is_outside is_control is_elsewhere is_other is_accepted
+    first_of refused_or verdict taken order_by is_control is_elsewhere is_other is_accepted
     link_bits link_bits_before halt_limit summed all_known stack_bits delays_of stack_answer
     is_enabled some_enabled
     held_after dropped_after wanted_after span_after span_kept arrived_in taken_from due_on

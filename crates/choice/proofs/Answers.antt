@@ -1,6 +1,6 @@
--- The laws of choice, for its callers: what a class and `Nothing` say of the fronts, the paused marks and, of a head, the timers, in the words
+-- The laws of choice, for its callers: what a class and none say of the fronts, the paused marks and, of a head, the timers, in the words
 -- of `specs/Answers`. Assumes nothing.
-use mathlib.Core.Path.{◌≡◌, refl, sym, ◌∙◌}
+use mathlib.Core.Path.{◌≡◌, refl, sym, subst, ◌∙◌}
 use mathlib.Core.Bool.{Bool, true, false, false≢true, not, ◌&&◌}
 use mathlib.Core.List.{List}
 use Prim.Native.Nat.{ℕ, ◌<◌}
@@ -8,15 +8,15 @@ use native.Mathlib.Omega.{arith}
 use borrow.Author.Tests.{ltb-true, ltb-false, le-ltb, lt-ltb, not-true}
 use lib.Dec.{ltb}
 use lib.ListN.{get_or}
+use Rattle.std.specs.Prelude.{Option, Some, None, Ok}
+use Rattle.refusals.proofs.Refused.{ok_is}
 use Rattle.ground.specs.Eight.{eight}
-use Rattle.ground.specs.First.{first_of}
 use Rattle.head.specs.declared.Head.{Head}
 use Rattle.head.specs.Timers.{is_paused, timer}
 use Rattle.head.proofs.Timers.{mark_paused}
-use Rattle.choice.specs.declared.Choice.TheVariants.{Class, Nothing}
-use Rattle.choice.specs.Choice.{choice, choice_at, choosing_order, may_go}
+use Rattle.choice.specs.Choice.{choice, choice_at, highest, may_go}
 use Rattle.choice.specs.Answers.{Free, FreeAt, HighestOf, NoneOf}
-use Rattle.choice.proofs.Highest.{Highest, chosen_right}
+use Rattle.choice.proofs.Highest.{Highest, highest_right}
 use Rattle.choice.proofs.Highest.Highest.{found, none}
 
 -- the free mark, taken apart and made
@@ -31,20 +31,25 @@ not_free : (fronts : List ℕ) (paused : List Bool) (c : ℕ) → may_go fronts 
 not_free fronts paused c e h = false≢true (sym e ∙ simp (lt-ltb (get_or fronts c 0) 8 h.0, h.1))
 
 module _ (fronts map : List ℕ) (paused : List Bool) where
-  -- a class that is answered: its front is present and not paused, and no class above it has such a front
-  pub class_answered : (c : ℕ) → choice fronts map paused ≡ Class c → HighestOf (Free fronts paused) c
+  -- an answer that is not refused is the highest that may go
+  answered : {answer : Option ℕ} → choice fronts map paused ≡ Ok answer → highest (may_go fronts paused) 8 ≡ answer
   unfolding choice
-  class_answered c e = told (chosen_right (first_of (choosing_order fronts map)) (may_go fronts paused) e refl)
+  answered e = sym (ok_is _ _ (sym e)).1
+
+  -- a class that is answered: its front is present and not paused, and no class above it has such a front
+  pub class_answered : (c : ℕ) → choice fronts map paused ≡ Ok (Some c) → HighestOf (Free fronts paused) c
+  unfolding choice
+  class_answered c e = told (subst (Highest (may_go fronts paused) 8) (answered e) (highest_right (may_go fronts paused) 8))
     where
-      told : Highest (may_go fronts paused) 8 (Class c) → HighestOf (Free fronts paused) c
+      told : Highest (may_go fronts paused) 8 (Some c) → HighestOf (Free fronts paused) c
       told (found _ below holds above) = (below, free_found fronts paused c holds, λ d p q. not_free fronts paused d (above d p q))
 
   -- none: no class has one
-  pub nothing_answered : choice fronts map paused ≡ Nothing → NoneOf (Free fronts paused)
+  pub nothing_answered : choice fronts map paused ≡ Ok None → NoneOf (Free fronts paused)
   unfolding choice
-  nothing_answered e = told (chosen_right (first_of (choosing_order fronts map)) (may_go fronts paused) e refl)
+  nothing_answered e = told (subst (Highest (may_go fronts paused) 8) (answered e) (highest_right (may_go fronts paused) 8))
     where
-      told : Highest (may_go fronts paused) 8 Nothing → NoneOf (Free fronts paused)
+      told : Highest (may_go fronts paused) 8 None → NoneOf (Free fronts paused)
       told (none fails) = λ d q. not_free fronts paused d (fails d q)
 
 module _ (head : Head) (fronts map : List ℕ) where
@@ -58,11 +63,11 @@ module _ (head : Head) (fronts map : List ℕ) where
   free_of c free = (free.0, mark_paused head (get_or fronts c 0) free.0 ∙ le-ltb 0 (timer head (get_or fronts c 0)) (omega (arith, free.1)))
 
   -- a head answers a class only where the timer of its front is 0, and no class above it has a front whose timer is 0
-  pub class_at : (c : ℕ) → choice_at head fronts map ≡ Class c → HighestOf (FreeAt head fronts) c
+  pub class_at : (c : ℕ) → choice_at head fronts map ≡ Ok (Some c) → HighestOf (FreeAt head fronts) c
   class_at c e =
       let told = class_answered fronts map (eight (is_paused head)) c e in
       (told.0, free_at c told.1, λ d p q free. told.2 d p q (free_of d free))
 
   -- and none only where every present front's timer is above 0
-  pub nothing_at : choice_at head fronts map ≡ Nothing → NoneOf (FreeAt head fronts)
+  pub nothing_at : choice_at head fronts map ≡ Ok None → NoneOf (FreeAt head fronts)
   nothing_at e = λ d q free. nothing_answered fronts map (eight (is_paused head)) e d q (free_of d free)

@@ -8,10 +8,13 @@ use borrow.Author.Tests.{ltb-true, lt-ltb, eqb-false, ne_eqb}
 use lib.Dec.{eqb, ltb}
 use lib.ListN.{get_or}
 use Rattle.ground.specs.Pick.{pick}
-use Rattle.choice.specs.declared.Choice.{Choice}
-use Rattle.choice.specs.Choice.{choice, choosing_order, chosen_by, is_misplaced, may_go, number_of, order_by, some_above}
+use Rattle.std.specs.Prelude.{Option, Result}
+use Rattle.refusals.specs.declared.Refusal.{Refusal}
+use Rattle.refusals.specs.Refusals.{number_of}
+pub use Rattle.refusals.specs.Refusals.{refused_or, numbered_in}
+use Rattle.refusals.proofs.Refused.{order_number}
+use Rattle.choice.specs.Choice.{choice, choosing_order, highest, is_misplaced, may_go, order_by, some_above}
 use Rattle.choice.specs.Answers.{EntryAbove, FrontMisplaced}
-use Rattle.choice.proofs.Highest.{chosen_number}
 use Rattle.ground.specs.Eight.{eight, some}
 use Rattle.ground.specs.First.{GivenExactly, are_apart, first_of, is_among}
 use Rattle.ground.proofs.First.{given_exactly}
@@ -49,24 +52,21 @@ above_tells limit entries = (above_found limit entries, above_here limit entries
 pub misplaced_tells : (fronts map : List ℕ) → (some (eight (is_misplaced fronts map)) ≡ true) ↔ FrontMisplaced fronts map
 misplaced_tells fronts map = (misplaced_found fronts map, misplaced_here fronts map)
 
-module _ (fronts map : List ℕ) where
-  -- the order's number, by the values of its tests
-  pub number_by : {wild high misplaced : Bool} {number : ℕ} → wild ≡ some_above 7 map → high ≡ some_above 8 fronts →
-      misplaced ≡ some (eight (is_misplaced fronts map)) → number ≡ first_of (order_by wild high misplaced) → number ≡ first_of (choosing_order fronts map)
-  number_by w h m n = cc
+-- the order's number, by the values of its tests
+pub number_by : (fronts map : List ℕ) {wild high misplaced : Bool} → wild ≡ some_above 7 map → high ≡ some_above 8 fronts →
+    misplaced ≡ some (eight (is_misplaced fronts map)) → first_of (order_by wild high misplaced) ≡ first_of (choosing_order fronts map)
+number_by fronts map w h m = λ i. first_of (order_by (w i) (h i) (m i))
 
-  module _ (paused : List Bool) where
-    -- an answer with the order's number is the choice
-    pub choice_by : {number : ℕ} {answer : Choice} → number ≡ first_of (choosing_order fronts map) → answer ≡ chosen_by number (may_go fronts paused) →
-        (number_of answer ≡ first_of (choosing_order fronts map)) × (answer ≡ choice fronts map paused)
-    unfolding choice
-    choice_by n e = (ap number_of e ∙ chosen_number _ (may_go fronts paused) ∙ n, e ∙ ap (λ (k : ℕ). chosen_by k (may_go fronts paused)) n)
+module _ (fronts map : List ℕ) (paused : List Bool) where
+  pub choice_number : number_of (choice fronts map paused) ≡ first_of (choosing_order fronts map)
+  unfolding choice
+  choice_number = order_number (choosing_order fronts map) (highest (may_go fronts paused) 8) (choice fronts map paused) refl refl
 
-    pub choice_number : number_of (choice fronts map paused) ≡ first_of (choosing_order fronts map)
-    unfolding choice
-    choice_number = chosen_number (first_of (choosing_order fronts map)) (may_go fronts paused)
+  -- an answer that is the choice bears the order's number
+  pub bears : {answer : Result (Option ℕ) Refusal} → answer ≡ choice fronts map paused → number_of answer ≡ first_of (choosing_order fronts map)
+  bears is = ap number_of is ∙ choice_number
 
-    -- "Each is given exactly when its condition holds and none earlier in the order does": 22, 20, 21
-    pub choosing_given : GivenExactly (choosing_order fronts map) (number_of (choice fronts map paused))
-    unfolding order_by are_apart is_among pick
-    choosing_given = given_exactly (choosing_order fronts map) refl choice_number
+  -- "Each is given exactly when its condition holds and none earlier in the order does": 22, 20, 21
+  pub choosing_given : GivenExactly (choosing_order fronts map) (number_of (choice fronts map paused))
+  unfolding are_apart is_among pick
+  choosing_given = given_exactly (choosing_order fronts map) refl choice_number

@@ -1,97 +1,48 @@
 // Reading the whole of an input. A read that fails is not the end of the input: it is told on standard error.
-ghost use Rattle.std.specs.Prelude.{◌<◌, ◌≤◌, ◌≡◌, true, false, length, take};
+ghost use Rattle.std.specs.Prelude.{◌≡◌, ◌<◌, length, take, IfOk};
 ghost use Rattle.std.specs.Io.KnownBytes.{Consumes, IsAtEnd};
-ghost use Rattle.console.specs.Counts.{IsPrefixLen};
-ghost use Rattle.remarks.specs.Errors.{is_none};
+ghost use Rattle.console.specs.Counts.{IsPrefixLen, octets_read};
 
 use remarks::EINTR;
-use std::io::Read;
+use std::io::{Error, Read};
 
-// What reading gave: so many octets at the start of the buffer, and whether they are the whole input (or as much of it as the buffer holds).
-#[derive(Clone, Copy)]
-pub struct Reading {
+// An input that was cut by a read that failed, which was told: so many octets came before it.
+#[derive(Clone, Copy, Debug, PartialEq, Eq)]
+pub struct Cut {
     pub count: usize,
-    pub is_whole: bool,
 }
 
-// What one call gave: so many octets, the system's number of its error or 0, and whether it was the last.
-#[derive(Drop)]
-struct Turn {
-    count: usize,
-    error: i32,
-    is_last: bool,
-}
-
-// What a call that failed comes to: an interrupted one is tried again.
-fn failed(error: i32) -> Turn
-    ensures count { result.count ≡ 0 }
-    ensures failed { is_none error ≡ false → result.is_last ≡ true → is_none result.error ≡ false }
+// Tells a read that failed after so many octets.
+fn told(rt: &HostRuntime, name: &[u8], error: Error, count: usize) -> Cut
+    ensures { result.count ≡ count }
 {
-    if error == EINTR {
-        return Turn {
-            count: 0,
-            error: 0,
-            is_last: false,
-        };
-    }
-    Turn {
-        count: 0,
-        error,
-        is_last: true,
-    }
+    let what = b": no report, since standard input could not be read: error ";
+    let _ = remarks::tell(rt, name, what, Err(error));
+    Cut { count }
 }
 
-// One read into what is left of a buffer. Where nothing is left, or nothing came, it was the last.
-fn read_once<R: Read>(input: &mut R, rest: &mut [u8]) -> Turn
-    ensures count { result.count ≤ length rest.old }
-    ensures came { Consumes (R.remaining input.old) (R.remaining input.new) (take result.count rest.new) }
-    ensures last { result.is_last ≡ true → is_none result.error ≡ true → 0 < length rest.old → IsAtEnd (R.remaining input.new) }
-{
-    match input.read(rest) {
-        Ok(got) => Turn {
-            count: got,
-            error: 0,
-            is_last: got == 0,
-        },
-        Err(error) => failed(remarks::number_of(&error)),
-    }
-}
-
-fn told(rt: &HostRuntime, name: &[u8], error: i32, count: usize) -> Reading
-    ensures count { result.count ≡ count }
-    ensures whole { result.is_whole ≡ is_none error }
-{
-    Reading {
-        count,
-        is_whole: remarks::tell(
-            rt,
-            name,
-            b": no report, since standard input could not be read: error ",
-            error,
-        ),
-    }
-}
-
-// Reads an input to its end, or until the buffer is full. A read that fails is told on standard error, behind the program's name.
+// Reads an input to its end, or until the buffer is full: how many octets came, at the start of the buffer. A read that fails is told on
+// standard error, behind the program's name; an interrupted one is tried again.
 // (A loop that is proved has to end: the turns are counted up to a number that no run reaches.)
-#[tactic(auto, using(crate::proofs::Rest::more_came), unfolding(remarks::specs::Errors::is_none))]
+#[tactic(auto, using(crate::proofs::Rest::more_came, crate::proofs::Rest::none_came))]
 pub fn read_whole<R: Read>(
     rt: &HostRuntime,
     input: &mut R,
     name: &[u8],
     buffer: &mut [u8],
-) -> Reading
-    ensures count { IsPrefixLen result.count buffer.new }
-    ensures came { Consumes (R.remaining input.old) (R.remaining input.new) (take result.count buffer.new) }
-    ensures whole { result.is_whole ≡ true → result.count < length buffer.new → IsAtEnd (R.remaining input.new) }
+) -> Result<usize, Cut>
+    ensures count { IsPrefixLen (octets_read result) buffer.new }
+    ensures came { Consumes (R.remaining input.old) (R.remaining input.new) (take (octets_read result) buffer.new) }
+    ensures whole { IfOk result (λ count. count < length buffer.new → IsAtEnd (R.remaining input.new)) }
 {
     let mut at: usize = 0;
     for _ in 0..u64::MAX {
-        let turn = read_once(input, &mut buffer[at..]);
-        at += turn.count;
-        if turn.is_last {
-            return told(rt, name, turn.error, at);
+        match input.read(&mut buffer[at..]) {
+            Ok(0) => return Ok(at),
+            Ok(count) => at += count,
+            Err(error) if remarks::number_of(&error) == EINTR => {}
+            Err(error) => return Err(told(rt, name, error, at)),
         }
     }
-    told(rt, name, EINTR, at)
+    Err(told(rt, name, Error::from_raw_os_error(EINTR), at))
 }

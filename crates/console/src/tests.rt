@@ -1,7 +1,10 @@
 // One call in mid-stream that is interrupted or fails: no contract says what is told then, nor that a report in memory is written.
 ghost use Rattle.std.specs.Prelude.{◌≤◌, length, IfOk};
 
+use crate::input::Cut;
 use crate::{input, output};
+use page::Page;
+use remarks::Told;
 use std::io;
 use std::io::{Error, Read, Write};
 
@@ -62,8 +65,7 @@ fn a_failed_read_is_no_end(rt: HostRuntime) {
         let mut buffer = [0u8; 8];
         let mut given = Input { calls: 0, number };
         let reading = input::read_whole(&rt, &mut given, b"a test", &mut buffer);
-        assert!(rt; !reading.is_whole, "error {number}");
-        assert_eq!(rt; reading.count, 2);
+        assert_eq!(rt; reading, Err(Cut { count: 2 }), "error {number}");
         assert_eq!(rt; buffer, [7, 8, 0, 0, 0, 0, 0, 0]);
     }
 }
@@ -73,25 +75,32 @@ fn a_full_buffer_is_whole(rt: HostRuntime) {
     let mut buffer = [0u8; 2];
     let mut given: &[u8] = b"abc";
     let reading = input::read_whole(&rt, &mut given, b"a test", &mut buffer);
-    assert!(rt; reading.is_whole);
+    assert_eq!(rt; reading, Ok(2));
     assert_eq!(rt; buffer, *b"ab");
 }
 
 #[test]
 fn a_page_that_does_not_fit(rt: HostRuntime) {
     for (room, is_well) in [(9, false), (10, true)] {
-        let page = page::number(page::blank(), 1_234_567_890);
+        let mut page = Page::blank();
+        page.number(1_234_567_890);
         let mut report = Output { room };
-        assert_eq!(rt;
-            output::write_page(&rt, &mut report, b"a test", page),
-            is_well
-        );
+        let outcome = output::write_page(&rt, &mut report, b"a test", &page);
+        assert_eq!(rt; outcome.is_ok(), is_well);
     }
+}
+
+// A page, and words behind it where it is written.
+fn page_and_words(rt: &HostRuntime, report: &mut Output, page: &Page) -> Result<(), Told> {
+    output::write_page(rt, report, b"a test", page)?;
+    output::write(rt, report, b"a test", b"ab")
 }
 
 #[test]
 fn nothing_after_a_failure(rt: HostRuntime) {
+    let mut page = Page::blank();
+    page.put(&[0u8; 8193]);
     let mut report = Output { room: 5 };
-    assert!(rt; !output::write(&rt, &mut report, b"a test", false, b"ab"));
+    assert!(rt; page_and_words(&rt, &mut report, &page).is_err());
     assert_eq!(rt; report.room, 5);
 }

@@ -7,6 +7,7 @@ use borrow.Author.Tests.{leb-false}
 use Rattle.ground.specs.First.{GivenExactly, are_apart, is_among, test_at}
 use Rattle.ground.specs.Pick.{pick}
 use Rattle.ground.proofs.First.{first_given}
+pub use Rattle.refusals.specs.Refusals.{refused_or, numbered_in}
 use Rattle.decisions.specs.Chains.{wait_order, wait_number, start_data_order, start_data_number, arrive_order, arrive_number}
 use Rattle.decisions.specs.Chains.{start_other_order, start_other_number, start_pfc_order, start_pfc_number}
 

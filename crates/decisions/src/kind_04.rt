@@ -1,20 +1,25 @@
 // Kind 04: B starts some other frame.
 ghost use Rattle.std.specs.Prelude.{◌≡◌};
-ghost use Rattle.decisions.specs.Chains.{start_other_number};
+ghost use Rattle.ground.specs.First.{first_of};
+ghost use Rattle.refusals.specs.Refusals.{number_of, refused_or};
+ghost use Rattle.decisions.specs.Chains.{start_other_order};
+
+use refusals::Refusal;
 
 // 33, 34, 38.
-#[tactic(auto, unfolding(crate::specs::Chains::start_other_number, ground::specs::First::first_of, ground::specs::Pick::pick))]
-pub fn start_other_number(outside: bool, busy: bool, late: bool) -> u8
-    ensures { result ≡ start_other_number outside busy late }
+#[tactic(auto, unfolding(crate::proofs::Order::refused_or, crate::proofs::Order::numbered_in, ground::specs::Pick::pick, ground::specs::First::first_of))]
+pub fn may_start_other(outside: bool, busy: bool, late: bool) -> Result<(), Refusal>
+    ensures number { number_of result ≡ first_of (start_other_order outside busy late) }
+    ensures answer { result ≡ refused_or (first_of (start_other_order outside busy late)) tt }
 {
     if outside {
-        return 33;
+        return Err(Refusal::Length);
     }
     if busy {
-        return 34;
+        return Err(Refusal::WireBusy);
     }
     if late {
-        return 38;
+        return Err(Refusal::OtherLate);
     }
-    0
+    Ok(())
 }

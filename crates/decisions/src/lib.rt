@@ -1,5 +1,5 @@
-// Which of document 01's numbers a record of the bench gives, once what it asks about is known: a file a kind, each trying its
-// refusals in document 01's order and answering 0 where none holds.
+// Which of document 01's refusals a record of the bench meets, once what it asks about is known: a file a kind, each trying its
+// refusals in document 01's order and refusing by the first that holds.
 #![tactic(auto)]
 
 ghost use Rattle.std.specs.Prelude.{◌≡◌};
@@ -22,8 +22,5 @@ pub const MOST_UNDER_WAY: u64 = 128;
 pub fn length_outside(largest: u64, length: u64) -> bool
     ensures { result ≡ length_outside largest length }
 {
-    if length < LEAST_LENGTH {
-        return true;
-    }
-    largest < length
+    length < LEAST_LENGTH || largest < length
 }

@@ -1,47 +1,44 @@
 // Reading and building frames.
-ghost use Rattle.std.specs.Prelude.{◌+◌, ◌*◌, ◌≤◌, length};
+ghost use Rattle.std.specs.Prelude.{◌+◌, ◌≤◌, length};
 
 use crate::turns;
-use frame::{Request, Verdict};
+use frame::Request;
+use refusals::Refusal;
 
-fn wide(time: u16) -> u64 {
-    time as u64
-}
-
+// (One by one: a fold over the eight cost 35 instructions a frame more, a third of what reading costs.)
 fn asks(asked: Request) -> u64 {
     let low = turns::add(
-        wide(asked.t0),
-        turns::add(wide(asked.t1), turns::add(wide(asked.t2), wide(asked.t3))),
+        u64::from(asked.times[0]),
+        turns::add(
+            u64::from(asked.times[1]),
+            turns::add(u64::from(asked.times[2]), u64::from(asked.times[3])),
+        ),
     );
     let high = turns::add(
-        wide(asked.t4),
-        turns::add(wide(asked.t5), turns::add(wide(asked.t6), wide(asked.t7))),
+        u64::from(asked.times[4]),
+        turns::add(
+            u64::from(asked.times[5]),
+            turns::add(u64::from(asked.times[6]), u64::from(asked.times[7])),
+        ),
     );
-    turns::add(2_000, turns::add(asked.e as u64, turns::add(low, high)))
+    turns::add(2_000, turns::add(u64::from(asked.e), turns::add(low, high)))
 }
 
-fn verdict(found: Verdict) -> u64 {
+fn verdict(found: Result<Option<Request>, Refusal>) -> u64 {
     match found {
-        Verdict::Data => 1_000,
-        Verdict::Asks(asked) => asks(asked),
-        Verdict::Refused(number) => number as u64,
+        Ok(None) => 1_000,
+        Ok(Some(asked)) => asks(asked),
+        Err(refusal) => u64::from(refusal.number()),
     }
 }
 
-// How many octets of a slot are its frame.
-fn size(length: u16) -> usize
-    ensures { result ≤ 126 }
-{
-    if length < 126 { length as usize } else { 126 }
-}
-
-// What the frame is that stands in the slot from a place on.
+// What the frame is that stands in the slot from a place on: a length of two octets, and at most 126 of the frame.
 fn read(slots: &[u8], at: usize, largest: u64, own: [u8; 6]) -> u64
     requires { at + 128 ≤ length slots.now }
 {
     let start = at + 2;
-    let end = start + size(octets::word_at(slots, at));
-    verdict(frame::read(&slots[start..end], largest, own))
+    let size = usize::from(octets::word_at(slots, at)).min(126);
+    verdict(frame::read(&slots[start..start + size], largest, own))
 }
 
 // The place of the next slot: after the last whole one comes the first.
@@ -58,7 +55,7 @@ fn read_all(slots: &[u8], largest: u64, own: [u8; 6], turns: u64) -> u64
 {
     let mut sum: u64 = 0;
     let mut at: usize = 0;
-    for turn in 0..turns {
+    for _ in 0..turns {
         sum = turns::add(sum, read(slots, at, largest, own));
         at = next(at, slots.len());
     }
@@ -69,20 +66,10 @@ pub(crate) fn reading(material: &[u8], turns: u64) -> u64 {
     if material.len() < 136 {
         return 0;
     }
-    let own = [
-        material[2],
-        material[3],
-        material[4],
-        material[5],
-        material[6],
-        material[7],
-    ];
-    read_all(
-        &material[8..],
-        octets::word_at(material, 0) as u64,
-        own,
-        turns,
-    )
+    let mut own = [0u8; 6];
+    own.copy_from_slice(&material[2..8]);
+    let largest = u64::from(octets::word_at(material, 0));
+    read_all(&material[8..], largest, own, turns)
 }
 
 // A frame is built with what the turn gives.
@@ -90,16 +77,14 @@ fn build(buffer: &mut [u8], turn: u64) -> u64 {
     let source = [0x02, 0x00, 0x00, 0x00, 0x00, 0x0B];
     let answer = frame_build::build(buffer, source, (turn % 256) as u8, turns::times(turn));
     match answer {
-        frame_build::Built::Written => octets::octet_at(buffer, (turn % 64) as usize) as u64,
-        frame_build::Built::Refused(number) => number as u64,
+        Ok(()) => u64::from(octets::octet_at(buffer, (turn % 64) as usize)),
+        Err(refusal) => u64::from(refusal.number()),
     }
 }
 
 pub(crate) fn building(turns: u64) -> u64 {
     let mut buffer = [0u8; 64];
-    let mut sum: u64 = 0;
-    for turn in 0..turns {
-        sum = turns::add(sum, build(&mut buffer, turn));
-    }
-    sum
+    (0..turns)
+        .map(|turn| build(&mut buffer, turn))
+        .fold(0, turns::add)
 }

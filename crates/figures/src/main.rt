@@ -8,17 +8,20 @@ mod recording;
 mod station;
 mod turns;
 
+use page::Page;
+use units::Quanta;
+
 // The sum over the answers of the work that is asked.
 fn sum_of(what: u8, turns: u64, material: &[u8]) -> u64 {
     match what {
         0x01 => frames::reading(material, turns),
         0x02 => frames::building(turns),
-        0x03 => station::timers(what, turns, 0),
-        0x04 => station::timers(what, turns, 0),
+        0x03 => station::single_quanta(turns),
+        0x04 => station::many_quanta(turns, Quanta(100)),
         0x05 => station::requests(turns),
         0x06 => station::choices(turns),
         0x07 => recording::watching(turns),
-        0x08 => station::counted_quanta(material, turns),
+        0x08 => station::counted_quanta(turns, material),
         _ => 0,
     }
 }
@@ -36,15 +39,15 @@ fn buffer() -> [u8; 65_536] {
 
 // Prints the sum on a line.
 fn answer(rt: &HostRuntime, file: &[u8]) {
-    let page = page::number(page::blank(), asked(file));
-    console::output::write_page(rt, &mut rt.stdout(), b"figures", page::put(page, b"\n"));
+    let mut page = Page::blank();
+    page.number(asked(file));
+    page.put(b"\n");
+    let _ = console::output::write_page(rt, &mut rt.stdout(), b"figures", &page);
 }
 
 fn main(rt: HostRuntime) {
     let mut file = buffer();
-    let reading = console::input::read_whole(&rt, &mut rt.stdin(), b"figures", &mut file);
-    if reading.is_whole {
-        let n = reading.count;
+    if let Ok(n) = console::input::read_whole(&rt, &mut rt.stdin(), b"figures", &mut file) {
         answer(&rt, &file[..n]);
     }
 }

@@ -3,7 +3,7 @@ use crate::turns;
 use marks::Marks;
 use moments::Moment;
 use recorder::Watch;
-use settings::{Settings, Settling};
+use settings::Settings;
 use units::{BitTimes, OctetTimes};
 
 fn settings() -> Settings {
@@ -48,7 +48,7 @@ fn after(numbers: &mut [[u64; 4]; 8], marks: Marks, watch: Watch, turn: u64) -> 
         1_522,
         OctetTimes(turn),
     );
-    let taking = recorder::taken(
+    let taken = recorder::taken(
         numbers,
         arrived,
         enabled,
@@ -57,27 +57,16 @@ fn after(numbers: &mut [[u64; 4]; 8], marks: Marks, watch: Watch, turn: u64) -> 
         octets_of(turn),
         OctetTimes(turns::add(turn, 1)),
     );
-    taking.marks
-}
-
-fn mark(wanted: bool) -> u64 {
-    if wanted { 1 } else { 0 }
+    taken.unwrap_or(arrived)
 }
 
 fn moment(due: Moment) -> u64 {
-    match due {
-        Moment::Never => 0,
-        Moment::At(since) => since.0,
-    }
+    due.map_or(0, |since| since.0)
 }
 
 fn seen(held: u64, marks: Marks, turn: u64) -> u64 {
-    let wanted = marks.wanted;
-    let due = marks.due;
-    turns::add(
-        turns::add(held, mark(wanted[(turn % 8) as usize])),
-        moment(due),
-    )
+    let wanted = marks.wanted[(turn % 8) as usize];
+    turns::add(turns::add(held, u64::from(wanted)), moment(marks.due))
 }
 
 fn watched(watch: Watch, turns: u64) -> u64 {
@@ -85,22 +74,17 @@ fn watched(watch: Watch, turns: u64) -> u64 {
     let mut marks = Marks::fresh();
     let mut sum: u64 = 0;
     for turn in 0..turns {
-        let next = after(&mut numbers, marks, watch, turn);
-        marks = next;
-        let room = numbers[(turn % 8) as usize];
-        sum = turns::add(sum, seen(room[0], next, turn));
+        marks = after(&mut numbers, marks, watch, turn);
+        let [held, ..] = numbers[(turn % 8) as usize];
+        sum = turns::add(sum, seen(held, marks, turn));
     }
-    turns::add(sum, marks.sent as u64)
+    turns::add(sum, u64::from(marks.sent))
 }
 
 pub(crate) fn watching(turns: u64) -> u64 {
     let settings = settings();
-    let settling = settings::settle(settings);
-    match settling {
-        Settling::Refused(number) => number as u64,
-        Settling::Accepted(kept) => {
-            let watch = Watch { settings, kept };
-            watched(watch, turns)
-        }
+    match settings::settle(settings) {
+        Ok(kept) => watched(Watch { settings, kept }, turns),
+        Err(refusal) => u64::from(refusal.number()),
     }
 }

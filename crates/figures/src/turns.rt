@@ -10,21 +10,12 @@ pub(crate) fn add(sum: u64, answer: u64) -> u64 {
     sum.wrapping_add(answer)
 }
 
-// time[n] of a turn.
+// time[n] of a turn: 8,191 more for each n.
 fn time_of(turn: u64, more: u64) -> u16 {
-    ((turn % 65_536 + more % 65_536) % 65_536) as u16
+    (turn.wrapping_add(more) % 65_536) as u16
 }
 
 // The eight times of a turn.
 pub(crate) fn times(turn: u64) -> [u16; 8] {
-    [
-        time_of(turn, 0),
-        time_of(turn, 8_191),
-        time_of(turn, 16_382),
-        time_of(turn, 24_573),
-        time_of(turn, 32_764),
-        time_of(turn, 40_955),
-        time_of(turn, 49_146),
-        time_of(turn, 57_337),
-    ]
+    [0, 8_191, 16_382, 24_573, 32_764, 40_955, 49_146, 57_337].map(|more| time_of(turn, more))
 }

@@ -6,7 +6,7 @@ ghost use Rattle.bench_meaning.specs.Run.{follow_of};
 ghost use Rattle.following.specs.Following.{empty_bench};
 
 use bench_meaning::Report;
-use bench_state::{Bench, Outcome};
+use bench_state::Bench;
 use bench_steps::step;
 use head::Head;
 use marks::Marks;
@@ -31,7 +31,7 @@ fn empty_bench(enabled: u8) -> Bench
     }
 }
 
-// The records after accepted settings, one after the other, up to the first refusal.
+// The records after accepted settings, one after the other, up to the first refusal. (By a place: each record has a length of its own.)
 pub fn follow(watch: Watch, input: &[u8]) -> Report
     ensures { result ≡ follow_of watch input.now }
 {
@@ -44,7 +44,7 @@ pub fn follow(watch: Watch, input: &[u8]) -> Report
     let mut at: usize = 0;
     let mut steps: u64 = 0;
     while at < input.len() {
-        let said = step::step(
+        let answer = step::step(
             watch,
             bench,
             &mut numbers,
@@ -54,21 +54,19 @@ pub fn follow(watch: Watch, input: &[u8]) -> Report
             &mut pfc_slots,
             &input[at..],
         );
-        let outcome = said.outcome;
-        let Outcome::Accepted = outcome else {
+        let Ok(next) = answer else {
             return reporting::report_of(
                 watch.settings.enabled,
                 bench,
                 numbers,
                 steps,
-                bench_state::number_of(outcome),
+                answer.err(),
                 steps + 1,
             );
         };
-        let next = said.bench;
         bench = next;
         at = at + 1 + records::body_length(octets::octet_at(input, at));
         steps = steps + 1;
     }
-    reporting::report_of(watch.settings.enabled, bench, numbers, steps, 0, 0)
+    reporting::report_of(watch.settings.enabled, bench, numbers, steps, None, 0)
 }

@@ -9,14 +9,9 @@ use Rattle.frame.proofs.read.Kinds as read_kinds
 use Rattle.frame.proofs.read.Reads as read
 use Rattle.frame.proofs.part.Kinds as part_kinds
 use Rattle.frame.proofs.part.Reads as part
-use Rattle.frame.proofs.times_of.Kinds as times_of_kinds
-use Rattle.frame.proofs.times_of.Reads as times_of
 
 pub read_decides : Decides 1 read_kinds.ps read_kinds.r read.Post
 read_decides κs args x y e f p q = p.1 ∙ sym q.1
-
-pub times_of_decides : Decides 0 times_of_kinds.ps times_of_kinds.r times_of.Post
-times_of_decides κs args x y e f p q = p ∙ sym q
 
 -- of a part handed back: the octets in it (that they are the caller's own is what its lifetime says)
 pub part_decides : (κs : Lfts 1) (args : Dens κs part_kinds.ps) (x y : (res_t part_kinds.r κs).Denot)

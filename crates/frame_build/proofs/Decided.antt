@@ -9,10 +9,10 @@ use Rattle.frame_build.proofs.build.Kinds as build_kinds
 use Rattle.frame_build.proofs.build.Reads as build
 
 pub build_decides : Decides 1 build_kinds.ps build_kinds.r build.Post
-build_decides κs args x y e f p q = p.1 ∙ sym q.1
+build_decides κs args x y e f p q = p.1.0 ∙ sym q.1.0
 
 -- and the buffer at exit
 pub build_decides_buffer : (κs : Lfts 1) (args : Dens κs build_kinds.ps) (x y : (res_t build_kinds.r κs).Denot)
     (e f : AtExit (ended_of 1 build_kinds.ps build_kinds.r) κs) →
     build.Post κs args x e → build.Post κs args y f → e.0.now ≡ f.0.now
-build_decides_buffer κs args x y e f p q = p.2 ∙ sym q.2
+build_decides_buffer κs args x y e f p q = p.1.1 ∙ sym q.1.1

@@ -9,17 +9,19 @@ use native.Mathlib.Omega.{arith}
 use lib.ListN.{length, get_or}
 use lib.Dec.{ltb}
 use borrow.Author.Tests.{le-ltb}
+use Rattle.std.specs.Prelude.{Some, Ok}
 use Rattle.ground.specs.Pick.{pick}
 use Rattle.ground.specs.First.{first_of}
 use Rattle.frame_build.specs.Build.{built_frame}
-use Rattle.frame.specs.Read.{is_accepted, is_control, is_elsewhere, is_other, is_outside, order_by, taken, verdict, request_of, request_in}
-use Rattle.frame.proofs.Reading.{verdict_taken}
-use Rattle.frame.specs.declared.Verdict.TheVariants.{Asks}
+use Rattle.frame.specs.declared.Request.{Request}
+use Rattle.frame.specs.Read.{is_accepted, is_control, is_elsewhere, is_other, order_by, taken, verdict, request_of, request_in}
+use Rattle.limits.specs.Limits.{refused13}
+use Rattle.refusals.proofs.Refused.{not_refused}
 
 -- within the limits none of 13, 1 and 2 is given, and with neither of 3 and 4 nothing is refused
 pub size_passes : (size M : ℕ) → 64 ≤ M → M ≤ 9216 → 60 ≤ size → size ≤ M - 4 →
-    first_of (order_by (is_outside M) (ltb size 60) (ltb (M - 4) size) false false) ≡ 0
-unfolding first_of order_by is_outside pick
+    first_of (order_by (refused13 M) (ltb size 60) (ltb (M - 4) size) false false) ≡ 0
+unfolding first_of order_by pick
 size_passes size M least most whole fits =
     simp (le-ltb M 64 least, le-ltb 9216 M most, le-ltb size 60 whole, le-ltb (M - 4) size fits)
 
@@ -36,9 +38,9 @@ request_kept source e times rest fit =
     cc (kept 0, kept 1, kept 2, kept 3, kept 4, kept 5, kept 6, kept 7)
 
 pub reads_back : (source : List ℕ) (e : ℕ) (times rest own : List ℕ) (M : ℕ) → 64 ≤ M → M ≤ 9216 → 60 + length rest ≤ M - 4 →
-    ((n : ℕ) → get_or times n 0 < 65536) → verdict (built_frame source e times ++ rest) M own ≡ Asks (request_of e times)
+    ((n : ℕ) → get_or times n 0 < 65536) → verdict (built_frame source e times ++ rest) M own ≡ Ok (Some (request_of e times))
 unfolding verdict taken is_control is_elsewhere is_other is_accepted pick
 reads_back source e times rest own M least most room fit =
     let size = length (built_frame source e times ++ rest) in
-    verdict_taken _ (built_frame source e times ++ rest) (size_passes size M least most (omega arith) (omega arith)) ∙
-    ap Asks (request_kept source e times rest fit)
+    not_refused _ (taken (built_frame source e times ++ rest)) (size_passes size M least most (omega arith) (omega arith)) ∙
+    ap (λ (asked : Request). Ok (Some asked)) (request_kept source e times rest fit)

@@ -1,26 +1,21 @@
 -- Document 01, "The frame", building: the 60 octets, and what a lent buffer holds at exit.
-use Rattle.std.specs.Prelude.{ℕ, ◌%◌, List, [], ◌∷◌, ◌++◌, length, take, drop, get_or, replicate, ltb, eqb}
-use Rattle.ground.specs.Pick.{pick}
-use Rattle.ground.specs.First.{Refusal, ◌gives◌, first_of}
+use Rattle.std.specs.Prelude.{ℕ, ◌%◌, List, [], ◌∷◌, ◌++◌, length, take, drop, get_or, replicate, ltb, eqb, Result, Ok, Err, ⊤}
+use Rattle.ground.specs.First.{Condition, ◌gives◌, first_of}
 use Rattle.octets.specs.Numbers.{octet_at, word_octets}
 use Rattle.frame.specs.Layout.{frame_octets, group_octets, control_type, pfc_opcode}
-use Rattle.frame_build.specs.declared.Built.{Built}
-use Rattle.frame_build.specs.declared.Built.TheVariants.{Written, Refused}
+use Rattle.refusals.specs.declared.Refusal.{Refusal}
+use Rattle.refusals.specs.Refusals.{refused_or}
 
 -- "Order: building 5, 6": "control buffer under 60 octets; source has the group bit", the lowest of its first octet
-unfoldable pub order_by : ℕ → ℕ → List Refusal
+abbrev pub order_by : ℕ → ℕ → List Condition
 order_by size first = ltb size frame_octets gives 5 ∷ eqb (first % 2) 1 gives 6 ∷ []
 
-abbrev pub building_order : ℕ → List ℕ → List Refusal
+abbrev pub building_order : ℕ → List ℕ → List Condition
 building_order size source = order_by size (octet_at source 0)
 
--- the answer with a number: refused by it, or written where it is 0
-unfoldable pub built_by : ℕ → Built
-built_by number = pick (eqb number 0) Written (Refused number)
-
 -- what building answers for a buffer's size and a source
-unfoldable pub build_verdict : ℕ → List ℕ → Built
-build_verdict size source = built_by (first_of (building_order size source))
+unfoldable pub build_verdict : ℕ → List ℕ → Result ⊤ Refusal
+build_verdict size source = refused_or (first_of (building_order size source)) tt
 
 -- octets 6-11: source
 abbrev pub source_octets : List ℕ → List ℕ
@@ -56,15 +51,10 @@ abbrev pub put_before : List ℕ → List ℕ → List ℕ
 put_before made buffer = take (length made) made ++ drop (length made) buffer
 
 -- "Building writes 60 octets and touches no octet after them"; a refused call leaves every octet as it was
-unfoldable pub buffer_for : Built → List ℕ → ℕ → List ℕ → List ℕ → List ℕ
-buffer_for Written source e times buffer = built_frame source e times ++ drop frame_octets buffer
-buffer_for (Refused number) source e times buffer = buffer
+unfoldable pub buffer_for : Result ⊤ Refusal → List ℕ → ℕ → List ℕ → List ℕ → List ℕ
+buffer_for (Ok written) source e times buffer = built_frame source e times ++ drop frame_octets buffer
+buffer_for (Err refusal) source e times buffer = buffer
 
 -- what the lent buffer holds at exit
 abbrev pub buffer_after : List ℕ → ℕ → List ℕ → List ℕ → List ℕ
 buffer_after source e times buffer = buffer_for (build_verdict (length buffer) source) source e times buffer
-
--- document 01's number of each answer: the refusal's, or 0 where the frame is written
-unfoldable pub build_number_of : Built → ℕ
-build_number_of Written = 0
-build_number_of (Refused number) = number

@@ -1,17 +1,17 @@
 -- Document 01, "Numbers on each side of a limit": the cases marked P that belong to the frame, as rows of the one table.
-use Rattle.std.specs.Prelude.{ℕ, Bool, List, [], ◌∷◌, replicate, set}
+use Rattle.std.specs.Prelude.{ℕ, Bool, List, [], ◌∷◌, replicate, set, Option, Some, None, Result, Ok, Err}
 use Rattle.ground.specs.Eight.{eight, bit_of}
 use Rattle.ground.specs.Table.{same}
 use Rattle.frame_build.specs.Build.{built_frame}
 use Rattle.frame.specs.Read.{verdict}
-use Rattle.frame.specs.declared.Verdict.{Verdict}
-use Rattle.frame.specs.declared.Verdict.TheVariants.{Data, Asks, Refused}
+use Rattle.frame.specs.declared.Request.{Request}
+use Rattle.refusals.specs.declared.Refusal.{Refusal}
 
--- the eight e bits of a request; nothing of any other verdict
-unfoldable pub enabled_in : Verdict → List ℕ
-enabled_in Data = []
-enabled_in (Asks request) = eight (bit_of request.e)
-enabled_in (Refused number) = []
+-- the eight e bits of a request; nothing of data or a refusal
+unfoldable pub enabled_in : Result (Option Request) Refusal → List ℕ
+enabled_in (Ok None) = []
+enabled_in (Ok (Some request)) = eight (bit_of request.e)
+enabled_in (Err refusal) = []
 
 -- a frame with the given enable vector
 unfoldable pub frame_with_vector : ℕ → ℕ → List ℕ

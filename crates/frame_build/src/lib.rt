@@ -3,18 +3,12 @@
 
 ghost use Rattle.std.specs.Prelude.{◌≡◌, ◌++◌, ◌≤◌, length, replicate};
 ghost use Rattle.ground.specs.First.{first_of};
-ghost use Rattle.frame_build.specs.Build.{order_by, building_order, build_number_of, build_verdict};
-ghost use Rattle.frame_build.specs.Build.{put_before, buffer_after, lead_octets, all_time_octets};
+ghost use Rattle.refusals.specs.Refusals.{number_of, refused_or};
+ghost use Rattle.frame_build.specs.Build.{order_by, building_order, build_verdict, put_before, buffer_after, lead_octets, all_time_octets};
 
-// What building answers.
-#[derive(Clone, Copy)]
-pub enum Built {
-    Written,
-    Refused(u8),
-}
+use refusals::Refusal;
 
-// The octets of eight times, two each.
-#[tactic(auto, using(crate::proofs::Building::times_joined), unfolding(ground::specs::Pick::pick))]
+// The octets of eight times, two each. (Written one by one: the compiler then stores the octets of several times in one go.)
 fn time_octets(times: [u16; 8]) -> [u8; 16]
     ensures { result ≡ all_time_octets times }
 {
@@ -32,10 +26,13 @@ fn time_octets(times: [u16; 8]) -> [u8; 16]
     ]
 }
 
-// The octets before the times, in document 01's order: destination, source, Length/Type, opcode, enable vector.
+// The octets before the times, in document 01's order: destination, source, Length/Type, opcode, enable vector. (One by one, as the document
+// lists them.)
 fn lead_octets(source: [u8; 6], e: u8) -> [u8; 18]
     ensures { result ≡ lead_octets source e }
 {
+    let control_type = frame::CONTROL_TYPE.to_be_bytes();
+    let opcode = frame::PFC_OPCODE.to_be_bytes();
     [
         frame::GROUP[0],
         frame::GROUP[1],
@@ -49,10 +46,10 @@ fn lead_octets(source: [u8; 6], e: u8) -> [u8; 18]
         source[3],
         source[4],
         source[5],
-        (frame::CONTROL_TYPE / 256 % 256) as u8,
-        (frame::CONTROL_TYPE % 256) as u8,
-        (frame::PFC_OPCODE / 256 % 256) as u8,
-        (frame::PFC_OPCODE % 256) as u8,
+        control_type[0],
+        control_type[1],
+        opcode[0],
+        opcode[1],
         0,
         e,
     ]
@@ -68,18 +65,18 @@ fn frame_octets(lead: [u8; 18], times: [u8; 16]) -> [u8; frame::FRAME_OCTETS]
     made
 }
 
-// The number of the first refusal that holds, 5, 6, or 0: by the buffer's length and the source's first octet.
-#[tactic(auto, using(ground::proofs::Tests::tests), unfolding(ground::specs::Pick::pick, ground::specs::First::first_of, crate::specs::Build::order_by))]
-fn refused(size: usize, first: u8) -> u8
-    ensures { result ≡ first_of (order_by size first) }
+// Refuses by the first of 5 and 6 that holds: by the buffer's length and the source's first octet.
+#[tactic(auto, unfolding(crate::proofs::Building::refused_or, crate::proofs::Building::numbered_in, ground::specs::Pick::pick, ground::specs::First::first_of))]
+fn refused(size: usize, first: u8) -> Result<(), Refusal>
+    ensures { result ≡ refused_or (first_of (order_by size first)) tt }
 {
     if size < frame::FRAME_OCTETS {
-        return 5;
+        return Err(Refusal::BufferShort);
     }
     if first % 2 == 1 {
-        return 6;
+        return Err(Refusal::GroupSource);
     }
-    0
+    Ok(())
 }
 
 // Puts octets at the front of a buffer that has room for them, and changes none after them.
@@ -92,16 +89,13 @@ fn put(made: &[u8], buffer: &mut [u8])
 
 // Writes the PFC frame with this source, enable octet and times into the buffer's first 60 octets and leaves the rest. A buffer under
 // 60 octets is refused with 5, a source with the group bit with 6, and then no octet changes.
-pub fn build(buffer: &mut [u8], source: [u8; 6], e: u8, times: [u16; 8]) -> Built
-    ensures { (build_number_of result ≡ first_of (building_order (length buffer.old) source))
-        × (result ≡ build_verdict (length buffer.old) source)
-        × (buffer.new ≡ buffer_after source e times buffer.old) }
+pub fn build(buffer: &mut [u8], source: [u8; 6], e: u8, times: [u16; 8]) -> Result<(), Refusal>
+    ensures number { number_of result ≡ first_of (building_order (length buffer.old) source) }
+    ensures answer { result ≡ build_verdict (length buffer.old) source }
+    ensures octets { buffer.new ≡ buffer_after source e times buffer.old }
 {
-    let number = refused(buffer.len(), source[0]);
-    if number != 0 {
-        return Built::Refused(number);
-    }
+    refused(buffer.len(), source[0])?;
     let made = frame_octets(lead_octets(source, e), time_octets(times));
     put(&made, buffer);
-    Built::Written
+    Ok(())
 }

@@ -8,16 +8,16 @@ use lib.Dec.{eqb}
 use lib.ListN.{length}
 use borrow.Author.Tests.{eqb-false, eq-eqb}
 use Rattle.ground.specs.Pick.{pick}
-use Rattle.ground.specs.First.{Refusal, first_of, test_at, number_at, Due, GivenExactly, is_among, are_apart}
+use Rattle.ground.specs.First.{Condition, first_of, test_at, number_at, Due, GivenExactly, is_among, are_apart}
 use Rattle.ground.proofs.Pick.{pick_yes, pick_no}
 
 -- what an order whose numbers are apart says of its first entry and of the rest
-pub record Parted (refusal : Refusal) (rest : List Refusal) : Type 0 where
+pub record Parted (refusal : Condition) (rest : List Condition) : Type 0 where
   pub nonzero : refusal.number ≡ 0 → ⊥
   pub alone : is_among refusal.number rest ≡ false
   pub rest_apart : are_apart rest ≡ true
 
-pub parted : (refusal : Refusal) (rest : List Refusal) → are_apart (refusal ∷ rest) ≡ true → Parted refusal rest
+pub parted : (refusal : Condition) (rest : List Condition) → are_apart (refusal ∷ rest) ≡ true → Parted refusal rest
 unfolding are_apart pick
 parted refusal rest = go (eqb refusal.number 0) (is_among refusal.number rest) refl refl
   where
@@ -33,14 +33,14 @@ or_later true holds = refl
 or_later false holds = holds
 
 -- a number that an order has at some place is among its numbers
-among : (number : ℕ) (order : List Refusal) (n : ℕ) → n < length order → number ≡ number_at order n → is_among number order ≡ true
+among : (number : ℕ) (order : List Condition) (n : ℕ) → n < length order → number ≡ number_at order n → is_among number order ≡ true
 unfolding is_among number_at pick
 among number [] n below is = absurd (omega arith)
 among number (refusal ∷ rest) zero below is = pick_yes _ _ (eq-eqb number refusal.number is)
 among number (refusal ∷ rest) (suc n) below is = or_later (eqb number refusal.number) (among number rest n (omega arith) is)
 
 -- the number given is 0 or one of the order's
-either_number : (order : List Refusal) → (first_of order ≡ 0 → ⊥) → is_among (first_of order) order ≡ true
+either_number : (order : List Condition) → (first_of order ≡ 0 → ⊥) → is_among (first_of order) order ≡ true
 unfolding first_of is_among pick
 either_number [] some = absurd (some refl)
 either_number (refusal ∷ rest) some = go refusal.test (either_number rest) some
@@ -51,7 +51,7 @@ either_number (refusal ∷ rest) some = go refusal.test (either_number rest) som
     go false later nonzero = or_later (eqb (first_of rest) refusal.number) (later nonzero)
 
 -- the four parts of the theorem
-gives : (order : List Refusal) (n : ℕ) → n < length order → Due order n → first_of order ≡ number_at order n
+gives : (order : List Condition) (n : ℕ) → n < length order → Due order n → first_of order ≡ number_at order n
 unfolding first_of test_at number_at
 gives [] n below due = absurd (omega arith)
 gives (refusal ∷ rest) zero below due = pick_yes _ _ due.holds
@@ -59,12 +59,12 @@ gives (refusal ∷ rest) (suc n) below due =
     pick_no _ _ (due.none_earlier zero (omega arith)) ∙
     gives rest n (omega arith) (record { holds = due.holds; none_earlier = λ k before. due.none_earlier (suc k) (omega arith) })
 
-gives_none : (order : List Refusal) → ((k : ℕ) → k < length order → test_at order k ≡ false) → first_of order ≡ 0
+gives_none : (order : List Condition) → ((k : ℕ) → k < length order → test_at order k ≡ false) → first_of order ≡ 0
 unfolding first_of test_at
 gives_none [] none = refl
 gives_none (refusal ∷ rest) none = pick_no _ _ (none zero (omega arith)) ∙ gives_none rest (λ k below. none (suc k) (omega arith))
 
-none_given : (order : List Refusal) → are_apart order ≡ true → first_of order ≡ 0 → (k : ℕ) → k < length order → test_at order k ≡ false
+none_given : (order : List Condition) → are_apart order ≡ true → first_of order ≡ 0 → (k : ℕ) → k < length order → test_at order k ≡ false
 unfolding first_of test_at pick
 none_given [] apart is k below = absurd (omega arith)
 none_given (refusal ∷ rest) apart is k below = go refusal.test refl (none_given rest (parted refusal rest apart).rest_apart) is k below
@@ -75,7 +75,7 @@ none_given (refusal ∷ rest) apart is k below = go refusal.test refl (none_give
     go false fails later is zero below = fails
     go false fails later is (suc k) below = later is k (omega arith)
 
-gives_only : (order : List Refusal) → are_apart order ≡ true → (n : ℕ) → n < length order → first_of order ≡ number_at order n → Due order n
+gives_only : (order : List Condition) → are_apart order ≡ true → (n : ℕ) → n < length order → first_of order ≡ number_at order n → Due order n
 unfolding first_of test_at number_at pick
 gives_only [] apart n below is = absurd (omega arith)
 gives_only (refusal ∷ rest) apart n below is = go refusal.test refl (gives_only rest (parted refusal rest apart).rest_apart) n below is
@@ -98,10 +98,10 @@ gives_only (refusal ∷ rest) apart n below is = go refusal.test refl (gives_onl
         let due = later n (omega arith) is in record { holds = due.holds; none_earlier = earlier n fails due.none_earlier }
 
 -- "Each is given exactly when its condition holds and none earlier in the order does"
-pub first_given : (order : List Refusal) → are_apart order ≡ true → GivenExactly order (first_of order)
+pub first_given : (order : List Condition) → are_apart order ≡ true → GivenExactly order (first_of order)
 first_given order apart =
     record { given = gives order; only = gives_only order apart; nothing = gives_none order; none_only = none_given order apart }
 
 -- the same of whatever equals it
-pub given_exactly : (order : List Refusal) {number : ℕ} → are_apart order ≡ true → number ≡ first_of order → GivenExactly order number
+pub given_exactly : (order : List Condition) {number : ℕ} → are_apart order ≡ true → number ≡ first_of order → GivenExactly order number
 given_exactly order apart is = subst (GivenExactly order) (sym is) (first_given order apart)

@@ -6,24 +6,29 @@ use mathlib.Core.List.{[], ◌∷◌}
 use native.Mathlib.Omega.{arith}
 use borrow.Author.Tests.{lt-ltb, le-ltb, ltb-false}
 use lib.Dec.{ltb}
+use Rattle.std.specs.Prelude.{⊤, Result, Ok, Err, IsErrAnd}
 use Rattle.ground.specs.Pick.{pick}
 use Rattle.ground.specs.First.{◌gives◌, first_of, test_at, is_among, are_apart}
 use Rattle.ground.proofs.Pick.{pick_yes, pick_no}
 use Rattle.ground.proofs.First.{first_given}
+use Rattle.ground.proofs.Passing.{neither}
+use Rattle.refusals.specs.Refusals.{refused_or, numbered_in}
+use Rattle.refusals.specs.declared.Refusal.{Refusal}
+use Rattle.refusals.proofs.Refused.{ok_is, err_is, handed_on}
 use Rattle.units.specs.declared.BitTimes.{BitTimes}
 use Rattle.units.specs.Units.{bits_of_quanta}
 use Rattle.limits.specs.Limits.{largest_delay, largest_path, refused13, delay_over, path_over}
-use Rattle.room_to_keep.specs.Keep.{kept}
+use Rattle.room_to_keep.specs.Keep.{kept, keeping, keep_refusal, refused14}
 use Rattle.room_to_keep.specs.declared.Kept.{Kept}
-use Rattle.room_to_keep.proofs.Room.{neither}
-use Rattle.headroom_sum.specs.Rates.{halt_limit, refused10}
+use Rattle.room_to_keep.proofs.Room.{is_14}
+use Rattle.headroom_sum.specs.Rates.{halt_limit, refused10, limit_order, limit_answer}
 use Rattle.headroom_sum.specs.Headroom.{largest_metres, least_percentage, largest_percentage, total_bits, refused11, refused12, refused19}
-use Rattle.headroom_sum.specs.Sum.{items, link_of, request_of, data_of, stations_over, paths_over, sum_refusal, summed}
+use Rattle.headroom_sum.specs.Sum.{items, link_of, request_of, data_of, stations_over, paths_over, over14, sum_refusal, summed}
 use Rattle.headroom_sum.specs.Stages.{from_m, Linked, BeforePaths}
 use Rattle.headroom_sum.specs.declared.Inputs.{Inputs}
 use Rattle.headroom_sum.specs.declared.Items.{Items}
-use Rattle.headroom_sum.specs.declared.Summed.{Summed}
 use Rattle.headroom_sum.proofs.Exactly.{answered_by}
+use Rattle.headroom_sum.proofs.Rate.{is_no_rate}
 
 -- what the station delays' test says where it does not hold
 pub record Fitting (b_transmit b_receive a_transmit a_receive : ℕ) : Type 0 where
@@ -77,10 +82,12 @@ module _ (i : Inputs) (no10 : refused10 i.rate ≡ false) where
       go false true is some = sym is
       go false false is some = absurd (some is)
 
-  pub cable_passed : first_of (refused11 i.metres gives 11 ∷ refused12 i.percentage gives 12 ∷ []) ≡ 0 → CablePassed i
+  pub cable_passed : {outside : Bool} → outside ≡ refused12 i.percentage →
+      ◌≡◌ {A = Result ⊤ Refusal} (Ok tt) (refused_or (first_of (refused11 i.metres gives 11 ∷ outside gives 12 ∷ [])) tt) → CablePassed i
   unfolding are_apart is_among test_at first_of pick
-  cable_passed none =
-      let each = (first_given (refused11 i.metres gives 11 ∷ refused12 i.percentage gives 12 ∷ []) refl).none_only none
+  cable_passed is_outside told =
+      let none = sym (in_order i refl is_outside refl) ∙ (ok_is _ tt told).0
+      in let each = (first_given (refused11 i.metres gives 11 ∷ refused12 i.percentage gives 12 ∷ []) refl).none_only none
       in let e11 : refused11 i.metres ≡ false = each 0 (omega arith)
       in let e12 : refused12 i.percentage ≡ false = each 1 (omega arith)
       in let within = neither (ltb i.percentage least_percentage) _ e12
@@ -90,6 +97,31 @@ module _ (i : Inputs) (no10 : refused10 i.rate ≡ false) where
         least = ltb-false _ _ within.0;
         most = ltb-false _ _ within.1;
       }
+
+-- what is handed on by `?`: a refusal of the rate, of the cable, or of the generation and the paths
+module _ (i : Inputs) (refusal : Refusal) (answer : Result Items Refusal) (is_err : IsErrAnd answer (λ e. e ≡ refusal)) where
+  pub refused_by_rate : Err refusal ≡ limit_answer i.rate → answer ≡ summed i
+  unfolding limit_answer first_of
+  refused_by_rate told =
+      let over = is_no_rate i.rate refusal told in
+      handed_on (first_of (limit_order i.rate)) _ (items i) refusal answer is_err told ∙ answered_by i (pick_yes _ _ over ∙ sym (pick_yes _ _ over))
+
+  pub refused_by_cable : refused10 i.rate ≡ false → {outside : Bool} → outside ≡ refused12 i.percentage →
+      ◌≡◌ {A = Result ⊤ Refusal} (Err refusal) (refused_or (first_of (refused11 i.metres gives 11 ∷ outside gives 12 ∷ [])) tt) → answer ≡ summed i
+  refused_by_cable no10 {outside} is_outside told =
+      let tried = in_order i refl is_outside refl in
+      handed_on _ tt (items i) refusal answer is_err told ∙ answered_by i (cable_refused i no10 tried (err_is _ tt told).0)
+
+  pub refused_by_paths : BeforePaths i → {request «data» : ℕ} → request ≡ request_of i → «data» ≡ data_of i →
+      Err refusal ≡ keeping i.largest i.generation.0 request «data» → answer ≡ summed i
+  unfolding keeping first_of pick
+  refused_by_paths at {request} {«data»} is_request is_data told =
+      let over : refused14 i.generation.0 request «data» ≡ true =
+      is_14 i.largest i.generation.0 request «data» refusal at.largest told in
+      let number : keep_refusal i.largest i.generation.0 request «data» ≡ 14 = pick_no _ _ at.largest ∙ pick_yes _ _ over in
+      let over14 : over14 i ≡ true = pick_no _ _ at.stations ∙ rw (is_request, is_data) at over in
+      handed_on _ (kept i.largest i.generation.0 request «data») (items i) refusal answer is_err told ∙
+      answered_by i (at.left ∙ pick_yes _ _ over14 ∙ sym number)
 
 either : (b r d : Bool) → r ≡ true → pick b true (pick r true d) ≡ true
 unfolding pick
@@ -113,13 +145,13 @@ module _ (i : Inputs) where
 
 -- where the sum stands past M and the station delays, and what it answers where it goes no further: for `after_link`
 module _ {i : Inputs} {link halting : ℕ} (at : Linked i link halting) where
-  pub refused_by_m : refused13 i.largest ≡ true → Summed.Refused 13 ≡ summed i
-  unfolding first_of pick
+  pub refused_by_m : refused13 i.largest ≡ true → Err Refusal.LargestFrame ≡ summed i
+  unfolding refused_or numbered_in first_of pick
   refused_by_m over = answered_by i (at.left ∙ pick_yes _ _ over)
 
   module _ (no13 : refused13 i.largest ≡ false) where
-    pub refused_by_station : stations_over i ≡ true → Summed.Refused 14 ≡ summed i
-    unfolding first_of pick
+    pub refused_by_station : stations_over i ≡ true → Err Refusal.Delay ≡ summed i
+    unfolding refused_or numbered_in first_of pick
     refused_by_station over = answered_by i (at.left ∙ (pick_no _ _ no13 ∙ pick_yes _ _ (pick_yes _ _ over)))
 
     module _ (no_station : stations_over i ≡ false) where
@@ -127,8 +159,6 @@ module _ {i : Inputs} {link halting : ℕ} (at : Linked i link halting) where
       unfolding first_of
       past_stations = record { left = at.left ∙ pick_no _ _ no13; largest = no13; stations = no_station }
 
-      pub refused_by_halt : largest_path < i.halt.0 → Summed.Refused 14 ≡ summed i
-      unfolding first_of pick
+      pub refused_by_halt : largest_path < i.halt.0 → Err Refusal.Delay ≡ summed i
+      unfolding refused_or numbered_in first_of pick
       refused_by_halt over = answered_by i (past_stations.left ∙ pick_yes _ _ (pick_no _ _ no_station ∙ halt_alone i over))
-
-pub ruleset stages = (stations_within, refused_by_m, refused_by_station, refused_by_halt, past_stations)

@@ -1,53 +1,63 @@
 -- Laws of the rates and their halt limits, for the callers of `halt_limit`. Assumes nothing.
 use Prim.Native.Nat.{ℕ, ◌≤◌}
-use mathlib.Core.Path.{◌≡◌, refl, sym, ap}
+use mathlib.Core.Path.{◌≡◌, refl, ap, ◌∙◌}
 use mathlib.Core.Bool.{Bool, true, false}
 use mathlib.Core.List.{[], ◌∷◌, map}
 use native.Mathlib.Omega.{arith}
 use borrow.Author.Tests.{eqb-true}
 use lib.Dec.{eqb}
+use Rattle.std.specs.Prelude.{Ok, Err}
 use Rattle.ground.specs.Pick.{pick}
-use Rattle.ground.proofs.Tests.{tests}
+use Rattle.ground.specs.First.{first_of}
+use Rattle.ground.proofs.Passing.{passed}
+use Rattle.refusals.specs.Refusals.{refused_or, numbered_in}
+use Rattle.refusals.specs.declared.Refusal.{Refusal}
+use Rattle.refusals.proofs.Refused.{not_refused, ok_is, err_is}
 use Rattle.units.specs.declared.Quanta.{Quanta}
 use Rattle.units.specs.Units.{bits_of_quanta, within64}
 use Rattle.units.specs.Counts.{quanta}
-use Rattle.headroom_sum.specs.Rates.{halt_limits, largest_rate, halt_limit, refused10, limit_answer}
-use Rattle.headroom_sum.specs.declared.HaltLimit.{HaltLimit}
-use Rattle.headroom_sum.proofs.Exactly.{limit_promised}
+use Rattle.headroom_sum.specs.Rates.{halt_limits, largest_rate, halt_limit, refused10, limit_order, limit_answer}
 
--- the answer at a number that is known
-pub at_rate : (rate known : ℕ) → rate ≡ known → limit_answer known ≡ limit_answer rate
-at_rate rate known e = ap limit_answer (sym e)
+-- for `halt_limit`: its answer at a number that has a limit, and at one that has none
+module _ (rate limit : ℕ) (is : halt_limit rate ≡ limit) (some : eqb limit 0 ≡ false) where
+  pub none_refused : first_of (limit_order rate) ≡ 0
+  unfolding first_of pick
+  none_refused = rw (is, some) refl
 
--- for `halt_limit`: its answer at each rate, and what it promises with it
-pub ruleset limited = (tests, at_rate, limit_promised)
+  pub limit_is : limit_answer rate ≡ Ok (quanta limit)
+  unfolding limit_answer
+  limit_is = not_refused _ _ none_refused ∙ ap (λ (n : ℕ). Ok (quanta n)) is
+
+module _ (rate : ℕ) (is : halt_limit rate ≡ 0) where
+  pub rate_refused : first_of (limit_order rate) ≡ 10
+  unfolding first_of pick
+  rate_refused = rw is refl
+
+  pub refusal_is : limit_answer rate ≡ Err Refusal.Rate
+  unfolding limit_answer refused_or numbered_in pick
+  refusal_is = rw rate_refused refl
+
+pub ruleset limited = (none_refused, limit_is, rate_refused, refusal_is)
 
 -- what a limit says of its rate
 pub record IsLimit (rate : ℕ) (limit : Quanta) : Type 0 where
   pub no10 : refused10 rate ≡ false
   pub is : limit ≡ quanta (halt_limit rate)
 
-opened : (b : Bool) (limit whole : Quanta) → HaltLimit.Limit limit ≡ pick b (HaltLimit.Refused 10) (HaltLimit.Limit whole) →
-    (b ≡ false) × (limit ≡ whole)
-unfolding pick
-opened true limit whole e = let z : ◌≡◌ {A = ℕ} 0 1 = cc in absurd (omega arith)
-opened false limit whole e = (refl, cc)
-
-pub is_limit : (rate : ℕ) (limit : Quanta) → HaltLimit.Limit limit ≡ limit_answer rate → IsLimit rate limit
-unfolding limit_answer
+pub is_limit : (rate : ℕ) (limit : Quanta) → Ok limit ≡ limit_answer rate → IsLimit rate limit
+unfolding limit_answer pick first_of
 is_limit rate limit e =
-    let h = opened (refused10 rate) limit (quanta (halt_limit rate)) e
-    in record { no10 = h.0; is = h.1 }
-
-refused : (b : Bool) (number : ℕ) (whole : Quanta) → HaltLimit.Refused number ≡ pick b (HaltLimit.Refused 10) (HaltLimit.Limit whole) → b ≡ true
-unfolding pick
-refused true number whole e = refl
-refused false number whole e = let z : ◌≡◌ {A = ℕ} 0 1 = cc in absurd (omega arith)
+    let told = ok_is _ (quanta (halt_limit rate)) e
+    in record { no10 = (passed (refused10 rate) 10 0 (omega arith) told.0).0; is = told.1 }
 
 -- a refusal is 10's
-pub is_no_rate : (rate number : ℕ) → HaltLimit.Refused number ≡ limit_answer rate → refused10 rate ≡ true
-unfolding limit_answer
-is_no_rate rate number e = refused (refused10 rate) number (quanta (halt_limit rate)) e
+pub is_no_rate : (rate : ℕ) (refusal : Refusal) → Err refusal ≡ limit_answer rate → refused10 rate ≡ true
+unfolding limit_answer first_of pick
+is_no_rate rate refusal e = go (refused10 rate) (err_is _ (quanta (halt_limit rate)) e).0
+  where
+    go : (b : Bool) → (◌≡◌ {A = ℕ} (pick b 10 0) 0 → ⊥) → b ≡ true
+    go true some = refl
+    go false some = absurd (some refl)
 
 -- "(6,144, 24,576, 61,440 bits)"
 pub in_bits : map (λ (known : ℕ × ℕ). bits_of_quanta known.1) halt_limits ≡ 6144 ∷ 24576 ∷ 61440 ∷ []

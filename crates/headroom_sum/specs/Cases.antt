@@ -1,12 +1,12 @@
 -- The cases of document 01 that are marked P and belong to the headroom, as L1 of document 02 reads them, as rows of tests to be computed;
 -- a table above collects them.
-use Rattle.std.specs.Prelude.{ℕ, Bool, List, [], ◌∷◌, eqb}
+use Rattle.std.specs.Prelude.{ℕ, Bool, List, [], ◌∷◌, eqb, Result, Ok, Err}
+use Rattle.refusals.specs.declared.Refusal.{Refusal}
 use Rattle.units.specs.Counts.{bits}
 use Rattle.headroom_sum.specs.Link.{link_bits, link_bits_before}
 use Rattle.headroom_sum.specs.Sum.{summed}
 use Rattle.headroom_sum.specs.declared.Inputs.{Inputs}
 use Rattle.headroom_sum.specs.declared.Items.{Items}
-use Rattle.headroom_sum.specs.declared.Summed.{Summed}
 
 -- "(004) 10GBASE-T with MAC/RS and two XAUI: each direction 18,944; generation 200, M 2000, halt 6,144", over 100 m at 60 %
 abbrev pub example004 : Inputs
@@ -25,9 +25,9 @@ example004 =
     }
 
 -- an item of a whole sum; 0 of a refusal
-abbrev pub item_of : (Items → ℕ) → Summed → ℕ
-item_of item (Summed.Whole whole) = item whole
-item_of item (Summed.Refused number) = 0
+abbrev pub item_of : (Items → ℕ) → Result Items Refusal → ℕ
+item_of item (Ok whole) = item whole
+item_of item (Err refusal) = 0
 
 unfoldable pub headroom_cases : List Bool
 headroom_cases =

@@ -1,9 +1,11 @@
 -- Document 01's three rates, and what `halt_limit` answers for every number.
-use Rattle.std.specs.Prelude.{ℕ, Bool, List, [], ◌∷◌, eqb}
+use Rattle.std.specs.Prelude.{ℕ, Bool, List, [], ◌∷◌, eqb, Result}
 use Rattle.ground.specs.Pick.{pick}
-use Rattle.ground.specs.First.{Refusal, ◌gives◌}
+use Rattle.ground.specs.First.{Condition, ◌gives◌, first_of}
+use Rattle.refusals.specs.Refusals.{refused_or}
+use Rattle.refusals.specs.declared.Refusal.{Refusal}
 use Rattle.units.specs.Counts.{quanta}
-use Rattle.headroom_sum.specs.declared.HaltLimit.{HaltLimit}
+use Rattle.units.specs.declared.Quanta.{Quanta}
 
 -- "Halt delay limit, 614.4 ns: 12, 48, 120 quanta at the three rates": each rate in Mb/s with its quanta
 abbrev pub halt_limits : List (ℕ × ℕ)
@@ -25,14 +27,9 @@ abbrev pub refused10 : ℕ → Bool
 refused10 rate = eqb (halt_limit rate) 0
 
 -- the one refusal of `halt_limit`
-abbrev pub limit_order : ℕ → List Refusal
+abbrev pub limit_order : ℕ → List Condition
 limit_order rate = refused10 rate gives 10 ∷ []
 
 -- the rate's limit, or 10 where it is no rate
-unfoldable pub limit_answer : ℕ → HaltLimit
-limit_answer rate = pick (refused10 rate) (HaltLimit.Refused 10) (HaltLimit.Limit (quanta (halt_limit rate)))
-
--- document 01's number of an answer: the refusal's, or 0
-unfoldable pub limit_number_of : HaltLimit → ℕ
-limit_number_of (HaltLimit.Limit limit) = 0
-limit_number_of (HaltLimit.Refused number) = number
+unfoldable pub limit_answer : ℕ → Result Quanta Refusal
+limit_answer rate = refused_or (first_of (limit_order rate)) (quanta (halt_limit rate))

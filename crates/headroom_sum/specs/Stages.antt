@@ -1,6 +1,6 @@
 -- Where the sum stands between its functions: what each may take for granted. Nothing here needs to be believed.
 use Rattle.std.specs.Prelude.{ℕ, ◌≤◌, ◌≡◌, false, List, [], ◌∷◌}
-use Rattle.ground.specs.First.{Refusal, ◌gives◌, first_of}
+use Rattle.ground.specs.First.{Condition, ◌gives◌, first_of}
 use Rattle.units.specs.Units.{bits_of_quanta}
 use Rattle.limits.specs.Limits.{largest_path, refused13}
 use Rattle.headroom_sum.specs.Rates.{halt_limit}
@@ -12,10 +12,10 @@ abbrev pub halt_bits : Inputs → ℕ
 halt_bits i = bits_of_quanta (halt_limit i.rate)
 
 -- what is left of the order once the cable passed, and once M and the station delays did
-abbrev pub from_m : Inputs → List Refusal
+abbrev pub from_m : Inputs → List Condition
 from_m i = refused13 i.largest gives 13 ∷ over14 i gives 14 ∷ over19 i gives 19 ∷ []
 
-abbrev pub from_paths : Inputs → List Refusal
+abbrev pub from_paths : Inputs → List Condition
 from_paths i = over14 i gives 14 ∷ over19 i gives 19 ∷ []
 
 -- what comes before 13 was tried; the link's bits and the halt limit's are known

@@ -1,7 +1,9 @@
 -- What `sum` answers for every input, refused ones too, and document 01's number for each case.
-use Rattle.std.specs.Prelude.{ℕ, Bool, true, List, [], ◌∷◌, eqb}
+use Rattle.std.specs.Prelude.{ℕ, Bool, true, List, [], ◌∷◌, Result}
 use Rattle.ground.specs.Pick.{pick}
-use Rattle.ground.specs.First.{Refusal, ◌gives◌, first_of}
+use Rattle.ground.specs.First.{Condition, ◌gives◌, first_of}
+use Rattle.refusals.specs.Refusals.{refused_or}
+use Rattle.refusals.specs.declared.Refusal.{Refusal}
 use Rattle.units.specs.Counts.{bits}
 use Rattle.limits.specs.Limits.{refused13}
 use Rattle.room_to_keep.specs.Keep.{kept, refused14}
@@ -10,7 +12,6 @@ use Rattle.headroom_sum.specs.Rates.{refused10}
 use Rattle.headroom_sum.specs.Headroom.{request_path, data_path, total_bits, refused11, refused12, station_over, refused19}
 use Rattle.headroom_sum.specs.declared.Inputs.{Inputs}
 use Rattle.headroom_sum.specs.declared.Items.{Items}
-use Rattle.headroom_sum.specs.declared.Summed.{Summed}
 
 -- the link's bits, and the two paths, of the inputs
 abbrev pub link_of : Inputs → ℕ
@@ -37,7 +38,7 @@ abbrev pub over19 : Inputs → Bool
 over19 i = refused19 i.rate i.halt.0
 
 -- "Headroom 10, 11, 12, 13, 14, 19"
-abbrev pub sum_order : Inputs → List Refusal
+abbrev pub sum_order : Inputs → List Condition
 sum_order i =
     refused10 i.rate gives 10
     ∷ refused11 i.metres gives 11
@@ -62,15 +63,6 @@ items i =
       room = kept i.largest i.generation.0 (request_of i) (data_of i);
     }
 
--- an answer by its number: at 0 the items, at any other the refusal
-abbrev pub summed_of : ℕ → Items → Summed
-summed_of number whole = pick (eqb number 0) (Summed.Whole whole) (Summed.Refused number)
-
 -- the sum, or the first refusal that holds
-unfoldable pub summed : Inputs → Summed
-summed i = summed_of (sum_refusal i) (items i)
-
--- document 01's number of an answer: the refusal's, or 0
-unfoldable pub sum_number_of : Summed → ℕ
-sum_number_of (Summed.Whole whole) = 0
-sum_number_of (Summed.Refused number) = number
+unfoldable pub summed : Inputs → Result Items Refusal
+summed i = refused_or (sum_refusal i) (items i)

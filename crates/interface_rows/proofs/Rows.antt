@@ -8,12 +8,12 @@ use native.Mathlib.Omega.{arith}
 use borrow.Author.Tests.{eqb-true}
 use lib.Dec.{eqb}
 use lib.ListN.{length, get_or}
+use Rattle.std.specs.Prelude.{None, Some}
 use Rattle.ground.specs.Pick.{pick}
 use Rattle.units.specs.Units.{bits_of_quanta}
 use Rattle.interface_rows.specs.TableN1.{row, table_n1, keeps_rule, every_row, is_row, row_at}
 use Rattle.interface_rows.specs.Stack.{bits_at}
 use Rattle.interface_rows.specs.declared.Row.{Row}
-use Rattle.interface_rows.specs.declared.RowAt.{RowAt}
 
 pub both : (b rest : Bool) → pick b rest false ≡ true → (b ≡ true) × (rest ≡ true)
 unfolding pick
@@ -39,23 +39,23 @@ module _ (index : ℕ) (h : index < length table_n1) where
   row_even = eqb-true _ _ (at_row (λ (r : Row). eqb (r.0.0 % 2) 0) table_n1 (row 0 0) refl index h)
 
 -- what is found is the row at the index
-found_by : (b : Bool) (r whole : Row) → RowAt.Found r ≡ pick b (RowAt.Found whole) RowAt.Unknown → (b ≡ true) × (r ≡ whole)
+found_by : (b : Bool) (r whole : Row) → Some r ≡ pick b (Some whole) None → (b ≡ true) × (r ≡ whole)
 unfolding pick
 found_by true r whole e = (refl, cc)
 found_by false r whole e = let z : ◌≡◌ {A = ℕ} 0 1 = cc in absurd (omega arith)
 
-pub found : (index : ℕ) (r : Row) → RowAt.Found r ≡ row_at index → (is_row index ≡ true) × (r.0.0 ≡ bits_at index)
+pub found : (index : ℕ) (r : Row) → Some r ≡ row_at index → (is_row index ≡ true) × (r.0.0 ≡ bits_at index)
 unfolding row_at
 found index r e =
     let h = found_by (is_row index) r (get_or table_n1 index (row 0 0)) e
     in (h.0, ap (λ (r : Row). r.0.0) h.1)
 
 -- and where none is found the index is no row's
-missing_by : (b : Bool) (whole : Row) → RowAt.Unknown ≡ pick b (RowAt.Found whole) RowAt.Unknown → b ≡ false
+missing_by : (b : Bool) (whole : Row) → None ≡ pick b (Some whole) None → b ≡ false
 unfolding pick
 missing_by true whole e = let z : ◌≡◌ {A = ℕ} 0 1 = cc in absurd (omega arith)
 missing_by false whole e = refl
 
-pub missing : (index : ℕ) → RowAt.Unknown ≡ row_at index → is_row index ≡ false
+pub missing : (index : ℕ) → None ≡ row_at index → is_row index ≡ false
 unfolding row_at
 missing index e = missing_by (is_row index) (get_or table_n1 index (row 0 0)) e

@@ -9,13 +9,13 @@ use borrow.Author.Tests.{ltb-true, ltb-false, lt-ltb}
 use lib.Dec.{ltb}
 use lib.ListN.{length, get_or, drop, drop_of_length-le, length-map, get_or-map}
 use lib.Seq.{drop-cons}
+use Rattle.std.specs.Prelude.{None, Some, Err}
 use Rattle.ground.specs.Pick.{pick}
 use Rattle.limits.specs.Limits.{largest_delay}
 use Rattle.interface_rows.specs.TableN1.{table_n1, is_row, row_at, receive_half}
 use Rattle.interface_rows.specs.Stack.{index_from, bits_at, all_known, stack_bits, delays_of, enough, stack_answer}
 use Rattle.interface_rows.specs.declared.Row.{Row}
-use Rattle.interface_rows.specs.declared.RowAt.{RowAt}
-use Rattle.interface_rows.specs.declared.Stacked.{Stacked}
+use Rattle.interface_rows.specs.declared.StackError.TheVariants.{Unknown}
 use Rattle.interface_rows.proofs.Numbers.{promised}
 use Rattle.interface_rows.proofs.Rows.{both, row_even, found, missing}
 
@@ -74,7 +74,7 @@ module _ (first : ℕ) (octets : List ℕ) (whole i index : ℕ)
   known_next = rw (named, add-one, drop-cons rows i (index_from first 0) turn)
 
   -- one more row
-  pub next : (row : Row) → RowAt.Found row ≡ row_at index → Stacking first octets (min (whole + row.0.0) enough) (i + 1)
+  pub next : (row : Row) → Some row ≡ row_at index → Stacking first octets (min (whole + row.0.0) enough) (i + 1)
   unfolding pick
   next row f =
       let r = found index row f
@@ -87,7 +87,7 @@ module _ (first : ℕ) (octets : List ℕ) (whole i index : ℕ)
       }
 
   -- a row that the table lacks
-  pub stops : RowAt.Unknown ≡ row_at index → Stacked.Unknown ≡ stack_answer rows
+  pub stops : None ≡ row_at index → Err Unknown ≡ stack_answer rows
   unfolding pick stack_answer
   stops m =
       let no : is_row index ≡ false = missing index m
@@ -103,4 +103,4 @@ stack_even (index ∷ rest) e =
     in omega (arith, row_even index (ltb-true index (length table_n1) h.0), stack_even rest h.1)
 
 -- for `stack_delays`: what holds at each row, and what each end promises
-pub ruleset stacking = (promised, start, next, stops, ends)
+pub ruleset stacking = (promised, start, stops, ends)

@@ -1,10 +1,9 @@
 -- Document 01's interface rows of Table N-1 (document 004), as data.
-use Rattle.std.specs.Prelude.{ℕ, ◌-◌, ◌/◌, Bool, true, false, List, [], ◌∷◌, ltb, eqb, length, get_or}
+use Rattle.std.specs.Prelude.{ℕ, ◌-◌, ◌/◌, Bool, true, false, List, [], ◌∷◌, ltb, eqb, length, get_or, Option, None, Some}
 use Rattle.ground.specs.Pick.{pick}
 use Rattle.units.specs.Counts.{bits, quanta}
 use Rattle.units.specs.Units.{bits_of_quanta}
 use Rattle.interface_rows.specs.declared.Row.{Row}
-use Rattle.interface_rows.specs.declared.RowAt.{RowAt}
 
 -- a row: its bits and its quanta
 abbrev pub row : ℕ → ℕ → Row
@@ -53,13 +52,13 @@ abbrev pub is_row : ℕ → Bool
 is_row index = ltb index (length table_n1)
 
 -- the row at an index counted from 0; past the table there is none
-unfoldable pub row_at : ℕ → RowAt
-row_at index = pick (is_row index) (RowAt.Found (get_or table_n1 index (row 0 0))) RowAt.Unknown
+unfoldable pub row_at : ℕ → Option Row
+row_at index = pick (is_row index) (Some (get_or table_n1 index (row 0 0))) None
 
 -- document 01's number of an answer: a row is no refusal, and for an index that is no row's document 01 has no number
-unfoldable pub row_number_of : RowAt → ℕ
-row_number_of (RowAt.Found r) = 0
-row_number_of RowAt.Unknown = 0
+unfoldable pub row_number_of : Option Row → ℕ
+row_number_of (Some r) = 0
+row_number_of None = 0
 
 -- "Half a row is transmit, half receive."
 abbrev pub transmit_half : ℕ → ℕ

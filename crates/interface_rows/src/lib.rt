@@ -7,23 +7,25 @@ ghost use Rattle.interface_rows.specs.TableN1.{row_at, row_number_of, transmit_h
 ghost use Rattle.interface_rows.specs.Stack.{index_from, enough, delays_of, stack_order, stack_answer, stack_number_of};
 
 use limits::LARGEST_DELAY;
+use refusals::Refusal;
 use units::{BitTimes, Quanta};
 
 // A row: the delay of both directions together, in bits and in quanta.
+// (Without names, so that a row of the table is a line.)
 #[derive(Clone, Copy)]
 pub struct Row(pub BitTimes, pub Quanta);
 
+// A stack's transmit and receive delay.
 #[derive(Clone, Copy)]
-pub enum RowAt {
-    Found(Row),
-    Unknown,
+pub struct Delays {
+    pub transmit: BitTimes,
+    pub receive: BitTimes,
 }
 
-// A stack's transmit and receive delay; or 14 where one is above what a station delay may be; or a row that the table lacks.
-#[derive(Clone, Copy)]
-pub enum Stacked {
-    Delays(BitTimes, BitTimes),
-    Refused(u8),
+// What a stack has instead: 14 where a delay is above what a station delay may be; or a row that the table lacks.
+#[derive(Clone, Copy, Debug, PartialEq, Eq)]
+pub enum StackError {
+    Refused(Refusal),
     Unknown,
 }
 
@@ -61,15 +63,11 @@ pub const TABLE_N_1: [Row; ROWS] = [
 const ENOUGH: BitTimes = BitTimes(2 * LARGEST_DELAY.0 + 1);
 
 // The row at an index counted from 0; any number may be asked.
-#[tactic(auto, using(ground::proofs::Tests::tests, crate::proofs::Numbers::no_number), unfolding(ground::specs::Pick::pick, crate::specs::TableN1::row_at))]
-pub fn row_at(index: usize) -> RowAt
+#[tactic(auto, using(crate::proofs::Numbers::no_number), unfolding(ground::specs::Pick::pick, crate::specs::TableN1::row_at))]
+pub fn row_at(index: usize) -> Option<Row>
     ensures { (row_number_of result ≡ 0) × (result ≡ row_at index) }
 {
-    if index < ROWS {
-        RowAt::Found(TABLE_N_1[index])
-    } else {
-        RowAt::Unknown
-    }
+    TABLE_N_1.get(index).copied()
 }
 
 // The half of a row that is its transmit delay.
@@ -87,14 +85,11 @@ pub fn receive_of(row: Row) -> BitTimes
 }
 
 // The index of the row that an octet names, rows counted from first; past the table where the octet is below first.
-#[tactic(auto, using(ground::proofs::Tests::tests), unfolding(ground::specs::Pick::pick, crate::specs::Stack::index_from))]
+#[tactic(auto, unfolding(ground::specs::Pick::pick, crate::specs::Stack::index_from))]
 fn index_from(first: u8, octet: u8) -> usize
     ensures { result ≡ index_from first octet }
 {
-    if octet < first {
-        return ROWS;
-    }
-    (octet - first) as usize
+    octet.checked_sub(first).map_or(ROWS, usize::from)
 }
 
 // A stack's bits so far and one row's more, no further than enough.
@@ -106,34 +101,33 @@ fn more_bits(whole: BitTimes, row: BitTimes) -> BitTimes
 }
 
 // The two delays of a stack's bits.
-#[tactic(auto, using(ground::proofs::Tests::tests), unfolding(ground::specs::Pick::pick, crate::specs::Stack::delays_of))]
-fn halves(whole: BitTimes) -> Stacked
+#[tactic(auto, unfolding(ground::specs::Pick::pick, crate::specs::Stack::delays_of))]
+fn halves(whole: BitTimes) -> Result<Delays, StackError>
     ensures { result ≡ delays_of whole.0 }
 {
     let transmit = whole.0 / 2;
     let receive = whole.0 - transmit;
     if LARGEST_DELAY.0 < receive {
-        return Stacked::Refused(14);
+        return Err(StackError::Refused(Refusal::Delay));
     }
-    Stacked::Delays(BitTimes(transmit), BitTimes(receive))
+    Ok(Delays {
+        transmit: BitTimes(transmit),
+        receive: BitTimes(receive),
+    })
 }
 
 // The transmit and receive delay of a station whose interface is a stack of the table's rows, in any order and as often as they stand
 // in it. Each octet names a row, counted from first. Any octets are answered: one that names no row gives Unknown, a delay above
 // 1,048,576 gives 14.
-#[tactic(auto, using(crate::proofs::Stack::stacking), unfolding(ground::specs::Pick::pick))]
-pub fn stack_delays(first: u8, rows: &[u8]) -> Stacked
+#[tactic(auto, using(crate::proofs::Stack::stacking))]
+pub fn stack_delays(first: u8, rows: &[u8]) -> Result<Delays, StackError>
     ensures { (stack_number_of result ≡ first_of (stack_order (map (index_from first) rows.now)))
         × (result ≡ stack_answer (map (index_from first) rows.now)) }
 {
     let mut whole = BitTimes(0);
-    let mut i = 0;
-    while i < rows.len() {
-        let RowAt::Found(row) = row_at(index_from(first, rows[i])) else {
-            return Stacked::Unknown;
-        };
+    for &octet in rows {
+        let row = row_at(index_from(first, octet)).ok_or(StackError::Unknown)?;
         whole = more_bits(whole, row.0);
-        i += 1;
     }
     halves(whole)
 }

@@ -1,16 +1,14 @@
 -- When a PFC frame is due and what it carries: a mark that changes makes one due now unless one is due, whose first moment stands; the
 -- refresh is dated last start + I and only while something is wanted; starting ends the due state; the eight times are T exactly where
 -- a priority is enabled and wanted. For the bounds on a pause. Assumes nothing but what each law says.
-use Rattle.std.proofs.Common.{◌≡◌, ℕ, ◌+◌, ◌%◌, ◌^◌, ◌<◌, Bool, true, false, ltb, length, get_or, refl, ap, ◌∙◌, arith, ltb-false, ltb-true}
+use Rattle.std.proofs.Common.{◌≡◌, ℕ, ◌+◌, ◌%◌, ◌^◌, ◌<◌, Bool, true, false, ltb, length, get_or, refl, ap, ◌∙◌, arith, ltb-false, ltb-true, None, Some}
 use lib.ListN.{get_or-eq_default}
 use Rattle.ground.specs.Pick.{pick}
 use Rattle.ground.specs.Eight.{is_set}
 use Rattle.ground.proofs.Pick.{pick_yes, pick_no}
 use Rattle.ground.proofs.Eight.{get_d_eight}
 use Rattle.units.specs.declared.OctetTimes.{OctetTimes}
-use Rattle.moments.specs.Moments.{at, due_on, refresh_from}
-use Rattle.moments.specs.declared.Moment.{Moment}
-use Rattle.moments.specs.declared.Moment.TheVariants.{Never, At}
+use Rattle.moments.specs.Moments.{Moment, at, due_on, refresh_from}
 use Rattle.moments.proofs.DueLaws.{due_stands, due_on_change, due_on_none, refresh_after_start}
 use Rattle.marks.specs.Marks.{wanted_at, differ, changes, with_mark, some_wanted, refresh_of, started_at, time_for, times_for}
 use Rattle.marks.specs.declared.Marks.{Marks}
@@ -18,17 +16,17 @@ use Rattle.marks.proofs.MarkLaws.{differ_same, differ_other, changes_below, some
 
 module _ (marks : Marks) (priority : ℕ) (wanted : Bool) (clock : ℕ) where
   -- "until then its first moment stands", whatever changes
-  pub first_moment_stands : (first : OctetTimes) → marks.due ≡ At first → (with_mark marks priority wanted clock).due ≡ At first
+  pub first_moment_stands : (first : OctetTimes) → marks.due ≡ Some first → (with_mark marks priority wanted clock).due ≡ Some first
   unfolding with_mark
   first_moment_stands first due = ap (due_on (changes marks priority wanted) clock) due ∙ due_stands _ clock first
 
   -- "PFC becomes due when any wanted mark changes"
-  pub change_is_due_now : priority < length marks.wanted → marks.due ≡ Never → (wanted_at marks priority ≡ wanted → ⊥) →
+  pub change_is_due_now : priority < length marks.wanted → marks.due ≡ None → (wanted_at marks priority ≡ wanted → ⊥) →
       (with_mark marks priority wanted clock).due ≡ at clock
   unfolding with_mark
   change_is_due_now below none changed =
       ap (due_on (changes marks priority wanted) clock) none
-      ∙ ap (λ (b : Bool). due_on b clock Never)
+      ∙ ap (λ (b : Bool). due_on b clock None)
       (changes_below marks priority wanted below ∙ differ_other (wanted_at marks priority) wanted changed)
       ∙ due_on_change clock
 
@@ -51,31 +49,31 @@ module _ (refresh : ℕ) (marks : Marks) (all : length marks.wanted ≡ 8) where
       ∙ ap (λ (m : Moment). refresh_from m refresh) last
       ∙ refresh_after_start started refresh small
 
-  pub no_refresh_unwanted : ((n : ℕ) → n < 8 → wanted_at marks n ≡ false) → refresh_of refresh marks ≡ Never
+  pub no_refresh_unwanted : ((n : ℕ) → n < 8 → wanted_at marks n ≡ false) → refresh_of refresh marks ≡ None
   unfolding refresh_of
   no_refresh_unwanted none = pick_no _ _ (none_wanted marks all none)
 
   -- a moment of the refresh has a wanted priority behind it
-  pub refresh_is_wanted : (moment : OctetTimes) → refresh_of refresh marks ≡ At moment → (n : ℕ) × (n < 8) × (wanted_at marks n ≡ true)
+  pub refresh_is_wanted : (moment : OctetTimes) → refresh_of refresh marks ≡ Some moment → (n : ℕ) × (n < 8) × (wanted_at marks n ≡ true)
   unfolding refresh_of pick
   refresh_is_wanted moment = go (some_wanted marks) refl
     where
-      go : (b : Bool) → some_wanted marks ≡ b → pick b (refresh_from marks.last refresh) Never ≡ At moment → (n : ℕ) × (n < 8) × (wanted_at marks n ≡ true)
+      go : (b : Bool) → some_wanted marks ≡ b → pick b (refresh_from marks.last refresh) None ≡ Some moment → (n : ℕ) × (n < 8) × (wanted_at marks n ≡ true)
       go true found dated = wanted_found marks all found
       go false none dated = let z : ◌≡◌ {A = ℕ} 0 1 = cc in absurd (omega arith)
 
 -- no PFC frame has started: no refresh
-pub no_refresh_unstarted : (refresh : ℕ) (marks : Marks) → marks.last ≡ Never → refresh_of refresh marks ≡ Never
+pub no_refresh_unstarted : (refresh : ℕ) (marks : Marks) → marks.last ≡ None → refresh_of refresh marks ≡ None
 unfolding refresh_of refresh_from pick
 no_refresh_unstarted refresh marks never = go (some_wanted marks)
   where
-    go : (b : Bool) → pick b (refresh_from marks.last refresh) Never ≡ Never
+    go : (b : Bool) → pick b (refresh_from marks.last refresh) None ≡ None
     go true = ap (λ (m : Moment). refresh_from m refresh) never
     go false = refl
 
 module _ (marks : Marks) (clock : ℕ) where
   -- "Starting one ends the due state", and dates the next refresh from the clock
-  pub starting_ends_due : (started_at marks clock).due ≡ Never
+  pub starting_ends_due : (started_at marks clock).due ≡ None
   unfolding started_at
   starting_ends_due = refl
 

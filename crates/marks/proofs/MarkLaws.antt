@@ -5,8 +5,7 @@ use lib.ListN.{get_or-eq_default}
 use lib.Seq.{set_out, set-get_or}
 use Rattle.ground.specs.Eight.{eight, some}
 use Rattle.ground.proofs.Eight.{eight_of_list, some_here, some_none, some_found}
-use Rattle.moments.specs.Moments.{due_on}
-use Rattle.moments.specs.declared.Moment.{Moment}
+use Rattle.moments.specs.Moments.{Moment, due_on}
 use Rattle.moments.proofs.DueLaws.{due_on_none}
 use Rattle.marks.specs.Marks.{wanted_at, differ, changes, with_mark, some_wanted}
 use Rattle.marks.specs.declared.Marks.{Marks}

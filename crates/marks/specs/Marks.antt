@@ -1,15 +1,13 @@
 -- Document 01, "Room watching at B": the marks of the priorities, when a PFC frame is due, and what it carries.
-use Rattle.std.specs.Prelude.{ℕ, ◌+◌, ◌%◌, ◌^◌, Bool, true, false, List, slice_index_or, slice_set}
+use Rattle.std.specs.Prelude.{ℕ, ◌+◌, ◌%◌, ◌^◌, Bool, true, false, List, slice_index_or, slice_set, None}
 use Rattle.ground.specs.Pick.{pick}
 use Rattle.ground.specs.Eight.{eight, is_set, some}
-use Rattle.moments.specs.Moments.{at, due_on, refresh_from}
-use Rattle.moments.specs.declared.Moment.{Moment}
-use Rattle.moments.specs.declared.Moment.TheVariants.{Never}
+use Rattle.moments.specs.Moments.{Moment, at, due_on, refresh_from}
 use Rattle.marks.specs.declared.Marks.{Marks}
 
 -- at the start: nothing wanted, no PFC frame due or started
 abbrev pub fresh_marks : Marks
-fresh_marks = record { wanted = eight (λ n. false); due = Never; last = Never; sent = 0 }
+fresh_marks = record { wanted = eight (λ n. false); due = None; last = None; sent = 0 }
 
 -- whether pause is wanted for a priority
 abbrev pub wanted_at : Marks → ℕ → Bool
@@ -43,11 +41,11 @@ some_wanted marks = some marks.wanted
 -- the moment of the refresh, while some priority is wanted (no mark changes inside a wait, so that what is wanted where it begins is
 -- wanted at that moment)
 unfoldable pub refresh_of : ℕ → Marks → Moment
-refresh_of refresh marks = pick (some_wanted marks) (refresh_from marks.last refresh) Never
+refresh_of refresh marks = pick (some_wanted marks) (refresh_from marks.last refresh) None
 
 -- "Starting one ends the due state"; "The counts of requests sent .. go from 4,294,967,295 back to 0."
 unfoldable pub started_at : Marks → ℕ → Marks
-started_at marks clock = record { wanted = marks.wanted; due = Never; last = at clock; sent = (marks.sent + 1) % 2 ^ 32 }
+started_at marks clock = record { wanted = marks.wanted; due = None; last = at clock; sent = (marks.sent + 1) % 2 ^ 32 }
 
 -- the marks with another due moment
 unfoldable pub with_due : Marks → Moment → Marks

@@ -7,29 +7,28 @@ use native.Mathlib.Omega.{arith}
 use borrow.Author.Tests.{le-leb, lt-leb}
 use Rattle.ground.proofs.Pick.{pick_yes, pick_no}
 use Rattle.units.specs.declared.OctetTimes.{OctetTimes}
-use Rattle.moments.specs.Moments.{at, due_on, refresh_from, due_by}
-use Rattle.moments.specs.declared.Moment.{Moment}
-use Rattle.moments.specs.declared.Moment.TheVariants.{Never, At}
+use Rattle.std.specs.Prelude.{None, Some}
+use Rattle.moments.specs.Moments.{Moment, at, due_on, refresh_from, due_by}
 
 -- "until then its first moment stands"
-pub due_stands : (changed : Bool) (clock : ℕ) (first : OctetTimes) → due_on changed clock (At first) ≡ At first
+pub due_stands : (changed : Bool) (clock : ℕ) (first : OctetTimes) → due_on changed clock (Some first) ≡ Some first
 unfolding due_on
 due_stands true clock first = refl
 due_stands false clock first = refl
 
 -- "PFC becomes due when any wanted mark changes"
-pub due_on_change : (clock : ℕ) → due_on true clock Never ≡ at clock
+pub due_on_change : (clock : ℕ) → due_on true clock None ≡ at clock
 unfolding due_on
 due_on_change clock = refl
 
 -- and by no mark that stays
 pub due_on_none : (clock : ℕ) (due : Moment) → due_on false clock due ≡ due
 unfolding due_on
-due_on_none clock Never = refl
-due_on_none clock (At first) = refl
+due_on_none clock None = refl
+due_on_none clock (Some first) = refl
 
 -- no PFC frame has started: no refresh
-pub no_refresh_unstarted : (refresh : ℕ) → refresh_from Never refresh ≡ Never
+pub no_refresh_unstarted : (refresh : ℕ) → refresh_from None refresh ≡ None
 unfolding refresh_from
 no_refresh_unstarted refresh = refl
 
@@ -40,19 +39,19 @@ refresh_after_start started refresh small = ap (λ (k : ℕ). at k) (omega arith
 
 module _ (clock : ℕ) where
   -- a refresh leaves a due moment as it stands
-  pub refresh_stands : (refresh : Moment) (first : OctetTimes) → due_by refresh clock (At first) ≡ At first
+  pub refresh_stands : (refresh : Moment) (first : OctetTimes) → due_by refresh clock (Some first) ≡ Some first
   unfolding due_by
   refresh_stands refresh first = refl
 
   -- "dated from that moment even inside a step": from the moment on it is due since then, before it is not
-  pub due_at_refresh : (moment : ℕ) → moment ≤ clock → due_by (at moment) clock Never ≡ at moment
+  pub due_at_refresh : (moment : ℕ) → moment ≤ clock → due_by (at moment) clock None ≡ at moment
   unfolding due_by
   due_at_refresh moment reached = pick_yes _ _ (le-leb _ _ reached)
 
-  pub not_due_before : (moment : ℕ) → clock < moment → due_by (at moment) clock Never ≡ Never
+  pub not_due_before : (moment : ℕ) → clock < moment → due_by (at moment) clock None ≡ None
   unfolding due_by
   not_due_before moment early = pick_no _ _ (lt-leb _ _ early)
 
-  pub not_due_without : due_by Never clock Never ≡ Never
+  pub not_due_without : due_by None clock None ≡ None
   unfolding due_by
   not_due_without = refl

@@ -7,32 +7,22 @@ ghost use Rattle.moments.specs.Moments.{is_never, is_ahead, past_due, due_on, re
 use units::OctetTimes;
 
 // A moment, or none.
-#[derive(Clone, Copy)]
-pub enum Moment {
-    Never,
-    At(OctetTimes),
-}
+pub type Moment = Option<OctetTimes>;
 
 // Whether there is no moment.
-#[tactic(auto, unfolding(ground::specs::Pick::pick, crate::specs::Moments::is_never))]
+#[tactic(auto, unfolding(crate::specs::Moments::is_never))]
 pub fn is_never(moment: Moment) -> bool
     ensures { result ≡ is_never moment }
 {
-    match moment {
-        Moment::Never => true,
-        Moment::At(_) => false,
-    }
+    moment.is_none()
 }
 
 // Whether a moment is still ahead; where there is none, it is.
-#[tactic(auto, unfolding(ground::specs::Pick::pick, crate::specs::Moments::is_ahead))]
+#[tactic(auto, unfolding(crate::specs::Moments::is_ahead))]
 pub fn is_ahead(moment: Moment, clock: OctetTimes) -> bool
     ensures { result ≡ is_ahead moment clock.0 }
 {
-    let Moment::At(first) = moment else {
-        return true;
-    };
-    clock.0 < first.0
+    moment.is_none_or(|first| clock < first)
 }
 
 // Whether the clock is past a moment, if there is one, by more than a bound.
@@ -40,44 +30,23 @@ pub fn is_ahead(moment: Moment, clock: OctetTimes) -> bool
 pub fn past(moment: Moment, bound: OctetTimes, clock: OctetTimes) -> bool
     ensures { result ≡ past_due moment bound.0 clock.0 }
 {
-    match moment {
-        Moment::Never => false,
-        Moment::At(first) => {
-            if first.0 <= clock.0 {
-                bound.0 < clock.0 - first.0
-            } else {
-                false
-            }
-        }
-    }
+    moment.is_some_and(|first| first <= clock && bound.0 < clock.0 - first.0)
 }
 
 // Due from the clock on where a mark changed, unless PFC is due already: its first moment stands.
-#[tactic(auto, using(crate::proofs::DueLaws::due_stands), unfolding(ground::specs::Pick::pick, crate::specs::Moments::due_on))]
+#[tactic(auto, unfolding(crate::specs::Moments::due_on))]
 pub fn due_on(changed: bool, clock: OctetTimes, due: Moment) -> Moment
     ensures { result ≡ due_on changed clock.0 due }
 {
-    match due {
-        Moment::At(first) => Moment::At(first),
-        Moment::Never => {
-            if changed {
-                Moment::At(clock)
-            } else {
-                Moment::Never
-            }
-        }
-    }
+    due.or(changed.then_some(clock))
 }
 
 // The moment from which the refresh has passed since the last PFC frame started; none where no PFC frame has started.
-#[tactic(auto, unfolding(ground::specs::Pick::pick, crate::specs::Moments::refresh_from))]
+#[tactic(auto, unfolding(crate::specs::Moments::refresh_from))]
 pub fn refresh_from(last: Moment, refresh: OctetTimes) -> Moment
     ensures { result ≡ refresh_from last refresh.0 }
 {
-    match last {
-        Moment::Never => Moment::Never,
-        Moment::At(started) => Moment::At(units::later(started, refresh)),
-    }
+    last.map(|started| units::later(started, refresh))
 }
 
 // Since when a PFC frame is due once the clock stands here, where the refresh makes one due from a moment on.
@@ -85,17 +54,5 @@ pub fn refresh_from(last: Moment, refresh: OctetTimes) -> Moment
 pub fn due_by(refresh: Moment, clock: OctetTimes, due: Moment) -> Moment
     ensures { result ≡ due_by refresh clock.0 due }
 {
-    match due {
-        Moment::At(since) => Moment::At(since),
-        Moment::Never => match refresh {
-            Moment::Never => Moment::Never,
-            Moment::At(moment) => {
-                if moment.0 <= clock.0 {
-                    Moment::At(moment)
-                } else {
-                    Moment::Never
-                }
-            }
-        },
-    }
+    due.or(refresh.filter(|moment| *moment <= clock))
 }

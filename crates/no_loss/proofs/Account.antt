@@ -6,6 +6,7 @@ use mathlib.Core.Bool.{Bool, true, false, false≢true}
 use mathlib.Core.Path.{◌≡◌, refl, sym, ap, subst, ◌∙◌}
 use mathlib.Core.List.{List, [], ◌∷◌}
 use native.Mathlib.Omega.{arith}
+use Rattle.std.specs.Prelude.{Ok, Err}
 use borrow.Author.Tests.{eqb-true, eq-eqb}
 use lib.Dec.{eqb}
 use Rattle.ground.specs.Pick.{pick}
@@ -17,7 +18,7 @@ use Rattle.recorder.specs.declared.Watch.{Watch}
 use Rattle.marks.specs.Marks.{started_at, with_due}
 use Rattle.recorder.specs.Watching.{Recorder, room_at, limits_of, with_room, arrived_with, arrived_at, taken_with, taken_at}
 use Rattle.recorder.proofs.RoomLaws.{EightRooms, fresh_room, room_then}
-use Rattle.records.specs.declared.Record.{Record}
+use Rattle.records.specs.Records.{Asked}
 use Rattle.records.specs.declared.Record.TheVariants as record'
 use Rattle.bench_meaning.specs.State.{Frame, State, priority_of, length_of, empty}
 use Rattle.bench_meaning.specs.Step.{refusal_of, next_of, step_of, waited, data_started, arrived, other_started, pfc_started, took_effect, octets_taken}
@@ -123,20 +124,20 @@ module _ (w : Watch) (p : ℕ) (on : Enabled w p) where
   effect_held s (f ∷ rest) = same_held _
 
   -- a record that is accepted
-  next_held : (s : State) (asked : Record) → EightRooms s.recorder →
+  next_held : (s : State) (asked : Asked) → EightRooms s.recorder →
       HeldThen s.recorder (brings p s asked) (takes p asked) (room_at (next_of w s asked).recorder p)
   unfolding next_of brings takes waited with_due data_started other_started pfc_started started_at
-  next_held s (record'.Wait n) all = same_held _
-  next_held s (record'.StartData priority size) all = same_held _
-  next_held s record'.Arrive all = arrive_held s s.to_b.row all
-  next_held s (record'.StartOther size) all = same_held _
-  next_held s record'.StartPfc all = same_held _
-  next_held s record'.TakeEffect all = effect_held s s.to_a.row
-  next_held s (record'.TakeOctets priority octets) all = take_held s priority octets all
-  next_held s (record'.Refused number) all = same_held _
+  next_held s (Ok (record'.Wait n)) all = same_held _
+  next_held s (Ok (record'.StartData priority size)) all = same_held _
+  next_held s (Ok record'.Arrive) all = arrive_held s s.to_b.row all
+  next_held s (Ok (record'.StartOther size)) all = same_held _
+  next_held s (Ok record'.StartPfc) all = same_held _
+  next_held s (Ok record'.TakeEffect) all = effect_held s s.to_a.row
+  next_held s (Ok (record'.TakeOctets priority octets)) all = take_held s priority octets all
+  next_held s (Err refusal) all = same_held _
 
   -- any record
-  step_held : (s : State) (asked : Record) → EightRooms s.recorder →
+  step_held : (s : State) (asked : Asked) → EightRooms s.recorder →
       HeldThen s.recorder (arriving w p s asked) (taking w p s asked) (room_at (step_of w s asked).recorder p)
   unfolding step_of arriving taking pick
   step_held s asked all = go (eqb (refusal_of w s asked) 0)
@@ -148,23 +149,23 @@ module _ (w : Watch) (p : ℕ) (on : Enabled w p) where
       go false = same_held _
 
   -- not 42 "more than is held"
-  take_there : (s : State) (asked : Record) → refusal_of w s asked ≡ 0 → takes p asked ≤ (room_at s.recorder p).held
+  take_there : (s : State) (asked : Asked) → refusal_of w s asked ≡ 0 → takes p asked ≤ (room_at s.recorder p).held
   unfolding takes pick refusal_of
-  take_there s (record'.Wait n) e = omega arith
-  take_there s (record'.StartData priority size) e = omega arith
-  take_there s record'.Arrive e = omega arith
-  take_there s (record'.StartOther size) e = omega arith
-  take_there s record'.StartPfc e = omega arith
-  take_there s record'.TakeEffect e = omega arith
-  take_there s (record'.TakeOctets q octets) e = go (eqb q p) refl (may_take w s.recorder q octets e).there
+  take_there s (Ok (record'.Wait n)) e = omega arith
+  take_there s (Ok (record'.StartData priority size)) e = omega arith
+  take_there s (Ok record'.Arrive) e = omega arith
+  take_there s (Ok (record'.StartOther size)) e = omega arith
+  take_there s (Ok record'.StartPfc) e = omega arith
+  take_there s (Ok record'.TakeEffect) e = omega arith
+  take_there s (Ok (record'.TakeOctets q octets)) e = go (eqb q p) refl (may_take w s.recorder q octets e).there
     where
       go : (own : Bool) → eqb q p ≡ own → octets ≤ (room_at s.recorder q).held → pick own octets 0 ≤ (room_at s.recorder p).held
       go true same there = subst (λ (k : ℕ). octets ≤ (room_at s.recorder k).held) (eqb-true q p same) there
       go false apart there = omega arith
-  take_there s (record'.Refused number) e = omega arith
+  take_there s (Err refusal) e = omega arith
 
   -- and nothing is taken by a record that is refused
-  taking_there : (s : State) (asked : Record) → taking w p s asked ≤ (room_at s.recorder p).held
+  taking_there : (s : State) (asked : Asked) → taking w p s asked ≤ (room_at s.recorder p).held
   unfolding taking pick
   taking_there s asked = go (eqb (refusal_of w s asked) 0) refl
     where
@@ -183,7 +184,7 @@ module _ (w : Watch) (p : ℕ) (on : Enabled w p) where
 
   module _ (sound : SoundWatch w) where
     -- the account of a list of records, from any state of a run
-    adds_up_from : (records : List Record) (s : State) → Inv w s →
+    adds_up_from : (records : List Asked) (s : State) → Inv w s →
         (room_at s.recorder p).held + arrived_sum w p s records ≡
         (room_at (after w s records).recorder p).held + taken_sum w p s records + dropped_sum w p s records
     unfolding after arrived_sum taken_sum dropped_sum not_fitting overflow limits_of
@@ -194,7 +195,7 @@ module _ (w : Watch) (p : ℕ) (on : Enabled w p) where
         omega (arith, held, one, adds_up_from rest (step_of w s asked) (inv_step w sound s asked inv))
 
     -- what is dropped, by the account alone
-    dropped_by_account : (records : List Record) (s : State) → Inv w s →
+    dropped_by_account : (records : List Asked) (s : State) → Inv w s →
         dropped_sum w p s records ≡ dropped_from w p s (room_at s.recorder p).held records
     unfolding dropped_sum dropped_from not_fitting overflow limits_of
     dropped_by_account [] s inv = refl
@@ -204,7 +205,7 @@ module _ (w : Watch) (p : ℕ) (on : Enabled w p) where
         ap (λ (more : ℕ). not_fitting w p s (arriving w p s asked) + more) (later ∙ same)
 
 -- from the start
-pub adds_up : (s : Settings) → settings_refusal s ≡ 0 → s.pause < 65536 → (records : List Record) (priority : ℕ) →
+pub adds_up : (s : Settings) → settings_refusal s ≡ 0 → s.pause < 65536 → (records : List Asked) (priority : ℕ) →
     is_enabled s.enabled priority ≡ true → AddsUp s records priority
 adds_up s accepted fits records priority on =
     let w = watch_of s in

@@ -6,9 +6,10 @@ use mathlib.Core.List.{List, []}
 use native.Mathlib.Omega.{arith}
 use lib.ListN.{get_or, length}
 use Rattle.frame_build.specs.Build.{built_frame}
-use Rattle.frame.specs.Read.{verdict, request_of, times_of}
-use Rattle.frame.specs.declared.Verdict.{Verdict}
-use Rattle.frame.specs.declared.Verdict.TheVariants.{Data, Asks, Refused}
+use Rattle.std.specs.Prelude.{Option, Some, None, Result, Ok, Err}
+use Rattle.refusals.specs.declared.Refusal.{Refusal}
+use Rattle.frame.specs.declared.Request.{Request}
+use Rattle.frame.specs.Read.{verdict, request_of}
 use Rattle.frame.proofs.Reading.{times_kept}
 use Rattle.frame_build.proofs.RoundTrip.{reads_back}
 use Rattle.head.specs.declared.Head.{Head}
@@ -57,21 +58,21 @@ effect_sets w head f p sound same on a n mine =
     let most = sound.terms.most in let least = sound.terms.least in
     let read = reads_back source_b enabled a.times [] address_a largest least most (omega arith) a.fit in
     ap (λ (o : List ℕ). timer (effect_of (verdict o largest address_a) head) n) a.built ∙
-    ap (λ (v : Verdict). timer (effect_of v head) n) read ∙
-    timer_replaced head enabled (times_of (request_of enabled a.times)) n below named ∙
+    ap (λ (found : Result (Option Request) Refusal). timer (effect_of found head) n) read ∙
+    timer_replaced head enabled (request_of enabled a.times).times n below named ∙
     times_kept enabled a.times n below ∙
     a.asks n mine
 
 -- whatever is read at A, its enabled priorities and the count of its timers stay
-pub effect_enabled : (v : Verdict) (head : Head) → (effect_of v head).enabled ≡ head.enabled
+pub effect_enabled : (found : Result (Option Request) Refusal) (head : Head) → (effect_of found head).enabled ≡ head.enabled
 unfolding effect_of
-effect_enabled Data head = refl
-effect_enabled (Asks request) head = refl
-effect_enabled (Refused number) head = refl
+effect_enabled (Ok None) head = refl
+effect_enabled (Ok (Some request)) head = refl
+effect_enabled (Err refusal) head = refl
 
 -- A has eight timers after it
-pub effect_eight : (v : Verdict) (head : Head) → length head.timers ≡ 8 → length (effect_of v head).timers ≡ 8
+pub effect_eight : (found : Result (Option Request) Refusal) (head : Head) → length head.timers ≡ 8 → length (effect_of found head).timers ≡ 8
 unfolding effect_of
-effect_eight Data head e = e
-effect_eight (Asks request) head e = refl
-effect_eight (Refused number) head e = e
+effect_eight (Ok None) head e = e
+effect_eight (Ok (Some request)) head e = refl
+effect_eight (Err refusal) head e = e

@@ -5,20 +5,20 @@ use mathlib.Core.Bool.{Bool, true, false}
 use mathlib.Core.Path.{◌≡◌, refl, sym, subst}
 use mathlib.Core.List.{List, [], ◌∷◌}
 use native.Mathlib.Omega.{arith}
+use Rattle.std.specs.Prelude.{Ok}
 use borrow.Author.Tests.{eq-eqb, leb-true, leb-false}
 use lib.Dec.{leb}
+use Rattle.std.specs.Prelude.{None, Some}
 use Rattle.ground.specs.Pick.{pick}
 use Rattle.ground.proofs.Pick.{pick_yes}
-use Rattle.moments.specs.declared.Moment.{Moment}
-use Rattle.moments.specs.declared.Moment.TheVariants.{Never, At}
-use Rattle.moments.specs.Moments.{at, due_on}
+use Rattle.moments.specs.Moments.{Moment, at, due_on}
 use Rattle.moments.proofs.Reached.{NotPast}
 use Rattle.rooms.specs.declared.Room.{Room}
 use Rattle.settings.specs.Settings.{is_enabled}
 use Rattle.recorder.specs.declared.Watch.{Watch}
 use Rattle.marks.specs.Marks.{with_mark, started_at}
 use Rattle.recorder.specs.Watching.{with_room, arrived_with, arrived_at}
-use Rattle.records.specs.declared.Record.{Record}
+use Rattle.records.specs.Records.{Asked}
 use Rattle.records.specs.declared.Record.TheVariants as record'
 use Rattle.bench_meaning.specs.State.{Frame, State, priority_of, length_of}
 use Rattle.bench_meaning.specs.Step.{oldest_end, refusal_of, next_of, step_of, waited, arrived, pfc_started, took_effect}
@@ -34,7 +34,7 @@ use Rattle.no_loss.proofs.Refusals.{MayStartPfc, wait_accepted, leave_accepted, 
 use Rattle.no_loss.proofs.Waiting.{may_wait_one}
 
 -- first a record that is accepted, then the others
-reaches_by : (w : Watch) (s : State) (asked : Record) (time : ℕ) → refusal_of w s asked ≡ 0 → Reaches w (next_of w s asked) time → Reaches w s time
+reaches_by : (w : Watch) (s : State) (asked : Asked) (time : ℕ) → refusal_of w s asked ≡ 0 → Reaches w (next_of w s asked) time → Reaches w s time
 unfolding AllAccepted after step_of
 reaches_by w s asked time e rest =
     let next : next_of w s asked ≡ step_of w s asked = sym (pick_yes _ _ (eq-eqb (refusal_of w s asked) 0 e)) in
@@ -47,9 +47,9 @@ reaches_by w s asked time e rest =
 -- a mark that changes now leaves the due PFC frame its time
 not_past_on : (changed : Bool) (t bound : ℕ) (due : Moment) → 1 ≤ bound → NotPast due bound (t + 1) → NotPast (due_on changed t due) bound (t + 1)
 unfolding due_on
-not_past_on true t bound Never h n = omega arith
-not_past_on false t bound Never h n = tt
-not_past_on changed t bound (At d) h n = n
+not_past_on true t bound None h n = omega arith
+not_past_on false t bound None h n = tt
+not_past_on changed t bound (Some d) h n = n
 
 module _ (w : Watch) (sound : SoundWatch w) where
   -- one octet time passes
@@ -70,7 +70,7 @@ module _ (w : Watch) (sound : SoundWatch w) where
   pass : (s : State) → s.clock < 2 ^ 40 → Inv w s → DataReady s → PfcReady s → DueReady s s.recorder.marks.due → Passes s
   unfolding next_of waited after AllAccepted
   pass s small inv d p past =
-      reaches_by w s (record'.Wait 1) (s.clock + 1) (wait_accepted w s 1 (may_wait_one w sound s inv small d p past))
+      reaches_by w s (Ok (record'.Wait 1)) (s.clock + 1) (wait_accepted w s 1 (may_wait_one w sound s inv small d p past))
       (record { records = []; accepted = tt; passes = refl })
 
   -- then the oldest data frame, if it must arrive now, with no other bound in the way
@@ -96,8 +96,8 @@ module _ (w : Watch) (sound : SoundWatch w) where
           let accepted = leave_accepted s'.to_b s.clock (omega arith) in
           let behind = inv.link.to_b.underway.follows.1 in
           let in_time = next_in_time length_of w.kept.«data».0 (s.clock + 1) f.end rest s.to_b.free (omega arith) behind in
-          reaches_by w s' record'.Arrive (s.clock + 1) accepted
-          (pass (arrived w s' (f ∷ rest)) small (inv_next w sound s' record'.Arrive accepted inv) in_time p
+          reaches_by w s' (Ok record'.Arrive) (s.clock + 1) accepted
+          (pass (arrived w s' (f ∷ rest)) small (inv_next w sound s' (Ok record'.Arrive) accepted inv) in_time p
           (due_then (is_enabled w.settings.enabled (priority_of f)) _))
 
   -- before that the oldest PFC frame, if it must take effect now, with no due PFC frame in the way
@@ -117,16 +117,16 @@ module _ (w : Watch) (sound : SoundWatch w) where
           let accepted = leave_accepted s'.to_a s.clock (omega arith) in
           let behind = inv.link.to_a.underway.follows.1 in
           let in_time = next_in_time pfc_length w.kept.request.0 (s.clock + 1) f.end rest s.to_a.free (omega arith) behind in
-          reaches_by w s' record'.TakeEffect (s.clock + 1) accepted
-          (clear_data (took_effect w s' (f ∷ rest)) s.to_b.row small (inv_next w sound s' record'.TakeEffect accepted inv) in_time past)
+          reaches_by w s' (Ok record'.TakeEffect) (s.clock + 1) accepted
+          (clear_data (took_effect w s' (f ∷ rest)) s.to_b.row small (inv_next w sound s' (Ok record'.TakeEffect) accepted inv) in_time past)
 
   -- before that the PFC frame that must start now, for which the row has room
   start_due : (s : State) → s.clock < 2 ^ 40 → Inv w s → MayStartPfc s → Passes s
   unfolding next_of pfc_started started_at
   start_due s small inv may =
       let accepted = start_pfc_accepted w s may in
-      reaches_by w s record'.StartPfc (s.clock + 1) accepted
-      (clear_pfc (pfc_started w s) (pfc_started w s).to_a.row small (inv_next w sound s record'.StartPfc accepted inv) tt)
+      reaches_by w s (Ok record'.StartPfc) (s.clock + 1) accepted
+      (clear_pfc (pfc_started w s) (pfc_started w s).to_a.row small (inv_next w sound s (Ok record'.StartPfc) accepted inv) tt)
 
   -- with 128 under way the oldest has ended and takes effect first
   make_room : (s : State) (row : List Frame) → s.clock < 2 ^ 40 → Inv w (row_to_a s row) → (since : ℕ) → s.recorder.marks.due ≡ at since →
@@ -137,8 +137,8 @@ module _ (w : Watch) (sound : SoundWatch w) where
       let s' = row_to_a s (f ∷ rest) in
       let by = follows_free pfc_length f.end rest s.to_a.free inv.link.to_a.underway.follows.1 in
       let accepted = leave_accepted s'.to_a s.clock (omega arith) in
-      reaches_by w s' record'.TakeEffect (s.clock + 1) accepted
-      (start_due (took_effect w s' (f ∷ rest)) small (inv_next w sound s' record'.TakeEffect accepted inv)
+      reaches_by w s' (Ok record'.TakeEffect) (s.clock + 1) accepted
+      (start_due (took_effect w s' (f ∷ rest)) small (inv_next w sound s' (Ok record'.TakeEffect) accepted inv)
       (record { since = since; due = due; idle = idle; few = omega (arith, inv.link.to_a.count) }))
 
   -- so one octet time can always pass
@@ -158,5 +158,5 @@ module _ (w : Watch) (sound : SoundWatch w) where
           let late : since + bound < s.clock + 1 = leb-false _ _ e in make_room s s.to_a.row small inv since is (omega arith)
 
       go : (due : Moment) → s.recorder.marks.due ≡ due → DueInTime (terms_of w) s.clock s.to_a.free due → Passes s
-      go Never is known = in_time Never is tt
-      go (At since) is known = tried since.0 is known (leb (s.clock + 1) (since.0 + bound)) refl
+      go None is known = in_time None is tt
+      go (Some since) is known = tried since.0 is known (leb (s.clock + 1) (since.0 + bound)) refl

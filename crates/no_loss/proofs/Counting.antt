@@ -4,6 +4,7 @@ use mathlib.Core.Bool.{Bool, true, false, false≢true}
 use mathlib.Core.Path.{◌≡◌, refl, sym, ap, ◌∙◌, subst}
 use mathlib.Core.List.{List, [], ◌∷◌}
 use native.Mathlib.Omega.{arith}
+use Rattle.std.specs.Prelude.{Ok, Err}
 use borrow.Author.Tests.{eqb-true}
 use lib.Dec.{eqb}
 use Rattle.ground.specs.Pick.{pick}
@@ -13,7 +14,7 @@ use Rattle.recorder.specs.declared.Watch.{Watch}
 use Rattle.marks.specs.Marks.{started_at, with_due}
 use Rattle.recorder.specs.Watching.{Recorder, room_at, limits_of}
 use Rattle.recorder.proofs.RoomLaws.{EightRooms, fresh_room}
-use Rattle.records.specs.declared.Record.{Record}
+use Rattle.records.specs.Records.{Asked}
 use Rattle.records.specs.declared.Record.TheVariants as record'
 use Rattle.bench_meaning.specs.State.{Frame, State, priority_of, length_of, empty}
 use Rattle.bench_meaning.specs.Step.{refusal_of, next_of, step_of, waited, data_started, arrived, other_started, pfc_started, took_effect, octets_taken}
@@ -52,22 +53,22 @@ module _ (w : Watch) (p : ℕ) (on : Enabled w p) where
   effect_moves s (f ∷ rest) = Moves.alone
 
   -- how a record that is accepted moves the room
-  next_moves : (s : State) (asked : Record) → refusal_of w s asked ≡ 0 → EightRooms s.recorder →
+  next_moves : (s : State) (asked : Asked) → refusal_of w s asked ≡ 0 → EightRooms s.recorder →
       Moved s.recorder (brings p s asked) (next_of w s asked).recorder
   unfolding refusal_of next_of brings waited with_due data_started other_started pfc_started started_at octets_taken
-  next_moves s (record'.Wait n) e all = Moves.alone
-  next_moves s (record'.StartData priority size) e all = Moves.alone
-  next_moves s record'.Arrive e all = arrive_moves s s.to_b.row all
-  next_moves s (record'.StartOther size) e all = Moves.alone
-  next_moves s record'.StartPfc e all = Moves.alone
-  next_moves s record'.TakeEffect e all = effect_moves s s.to_a.row
-  next_moves s (record'.TakeOctets priority octets) e all =
+  next_moves s (Ok (record'.Wait n)) e all = Moves.alone
+  next_moves s (Ok (record'.StartData priority size)) e all = Moves.alone
+  next_moves s (Ok record'.Arrive) e all = arrive_moves s s.to_b.row all
+  next_moves s (Ok (record'.StartOther size)) e all = Moves.alone
+  next_moves s (Ok record'.StartPfc) e all = Moves.alone
+  next_moves s (Ok record'.TakeEffect) e all = effect_moves s s.to_a.row
+  next_moves s (Ok (record'.TakeOctets priority octets)) e all =
       let may = may_take w s.recorder priority octets e in
       moves_any ((taken_moves w s.clock s.recorder all priority octets may.enabled).moves p on)
-  next_moves s (record'.Refused number) e all = Moves.alone
+  next_moves s (Err refusal) e all = Moves.alone
 
   -- and none that is refused does
-  step_moves : (s : State) (asked : Record) → EightRooms s.recorder → Moved s.recorder (arriving w p s asked) (step_of w s asked).recorder
+  step_moves : (s : State) (asked : Asked) → EightRooms s.recorder → Moved s.recorder (arriving w p s asked) (step_of w s asked).recorder
   unfolding step_of arriving pick
   step_moves s asked all = go (eqb (refusal_of w s asked) 0) refl
     where
@@ -77,7 +78,7 @@ module _ (w : Watch) (p : ℕ) (on : Enabled w p) where
       go false e = Moves.alone
 
   -- the counters after a list of records, from those before it
-  counted : SoundWatch w → (records : List Record) (s : State) → Inv w s → (dropped span worst : ℕ) →
+  counted : SoundWatch w → (records : List Asked) (s : State) → Inv w s → (dropped span worst : ℕ) →
       Tally (shown_at w s.recorder p) dropped span worst →
       CountersAre p (after w s records) (dropped + dropped_sum w p s records) (max worst (worst_from w p s span records))
   unfolding after dropped_sum not_fitting worst_from span_sum
@@ -88,7 +89,7 @@ module _ (w : Watch) (p : ℕ) (on : Enabled w p) where
       (held64 later.0 (omega arith), held64 later.1 (omega arith))
 
   -- the counters after a list of records from the start
-  pub counted_from_start : SoundWatch w → (records : List Record) →
+  pub counted_from_start : SoundWatch w → (records : List Asked) →
       CountersAre p (after w (empty w) records) (0 + dropped_sum w p (empty w) records) (max 0 (worst_from w p (empty w) 0 records))
   counted_from_start sound records =
       counted sound records (empty w) (inv_empty w sound) 0 0 0

@@ -3,27 +3,27 @@
 use Prim.Native.Nat.{ℕ, ◌+◌, ◌-◌, ◌*◌, ◌/◌, ◌≤◌, ◌<◌}
 use mathlib.Core.Bool.{Bool, true, false}
 use mathlib.Core.List.{List, [], ◌∷◌}
-use Rattle.moments.specs.declared.Moment.{Moment}
-use Rattle.moments.specs.declared.Moment.TheVariants.{Never, At}
+use Rattle.std.specs.Prelude.{None, Some}
+use Rattle.moments.specs.Moments.{Moment}
 use Rattle.bench_meaning.specs.State.{Frame, priority_of, length_of}
 use Rattle.no_loss.proofs.Terms.{Terms, W, O, H, K, lost, slack}
 use Rattle.no_loss.proofs.Rows.{Each, Follows}
 
 -- PFC is due since d, and A stops by `stop` if the PFC frame starts in time
 abbrev pub Waits : Terms → Moment → ℕ → Type 0
-Waits c Never stop = ⊥
-Waits c (At d) stop = d.0 + O c + lost c ≤ stop
+Waits c None stop = ⊥
+Waits c (Some d) stop = d.0 + O c + lost c ≤ stop
 
 -- if PFC is due, it is due no later than the refresh of the last PFC frame
 abbrev pub Prompt : Terms → Moment → Moment → Type 0
-Prompt c Never last = Unit {0}
-Prompt c (At d) Never = ⊥
-Prompt c (At d) (At m) = d.0 ≤ m.0 + c.I
+Prompt c None last = Unit {0}
+Prompt c (Some d) None = ⊥
+Prompt c (Some d) (Some m) = d.0 ≤ m.0 + c.I
 
 -- the last PFC frame that started ends by a moment
 abbrev pub EndedBy : Moment → ℕ → Type 0
-EndedBy Never moment = ⊥
-EndedBy (At m) moment = m.0 + 84 ≤ moment
+EndedBy None moment = ⊥
+EndedBy (Some m) moment = m.0 + 84 ≤ moment
 
 -- after a PFC frame that ends at `end`, a row of PFC frames that each ask T, each ending at most K after the one before, up to the last
 -- that started

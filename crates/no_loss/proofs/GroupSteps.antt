@@ -4,9 +4,8 @@ use mathlib.Core.Bool.{Bool, true, false}
 use mathlib.Core.Path.{◌≡◌, refl, sym, subst}
 use mathlib.Core.List.{List, [], ◌∷◌, ◌++◌}
 use native.Mathlib.Omega.{arith}
-use Rattle.moments.specs.declared.Moment.{Moment}
-use Rattle.moments.specs.declared.Moment.TheVariants.{Never, At}
-use Rattle.moments.specs.Moments.{at, due_on, due_by}
+use Rattle.std.specs.Prelude.{None, Some}
+use Rattle.moments.specs.Moments.{Moment, at, due_on, due_by}
 use Rattle.bench_meaning.specs.State.{Frame, priority_of, length_of}
 use Rattle.bench_meaning.specs.Step.{oldest_end}
 use Rattle.no_loss.proofs.Terms.{Terms, Sound, W, O, H, lost}
@@ -68,7 +67,7 @@ module _ {c : Terms} {j : ℕ} {Mine : ℕ → Type 0} {Asks : Frame → Type 0}
   pub group_started : {data_row pfc_row : List Frame} {wanted : Bool} {free span b_free : ℕ} (f : Frame) (since : ℕ) →
       due ≡ at since → Marked c t b_free due last wanted → f.end ≡ t + 84 → (wanted ≡ true → Asks f) →
       Group c j Mine Asks t timers due last data_row a_free pfc_row wanted free span →
-      Group c j Mine Asks t timers Never (at t) data_row a_free (pfc_row ++ (f ∷ [])) wanted free span
+      Group c j Mine Asks t timers None (at t) data_row a_free (pfc_row ++ (f ∷ [])) wanted free span
   group_started f since is m e asks (Group.calm g) = Group.calm g
   group_started {pfc_row = pfc_row} {b_free = b_free} f since is m e asks (Group.wanted g) =
       Group.wanted
@@ -114,15 +113,15 @@ module _ {c : Terms} {j : ℕ} {Mine : ℕ → Type 0} {Asks : Frame → Type 0}
 
 -- since when PFC is due once a mark has changed
 since : ℕ → Moment → ℕ
-since t Never = t
-since t (At d) = d.0
+since t None = t
+since t (Some d) = d.0
 
 -- no later than now, and A can be stopped in time
 since_known : (c : Terms) (t b_free : ℕ) (due : Moment) → DueInTime c t b_free due →
     (since t due ≤ t) × (t ≤ since t due + O c) × Waits c (due_on true t due) (since t due + O c + lost c)
 unfolding since due_on
-since_known c t b_free Never h = (omega arith, omega arith, omega arith)
-since_known c t b_free (At d) h = (omega arith, omega arith, omega arith)
+since_known c t b_free None h = (omega arith, omega arith, omega arith)
+since_known c t b_free (Some d) h = (omega arith, omega arith, omega arith)
 
 -- the span count after octets of the group arrived: it grows by them while pause is wanted, as long as it does not saturate, and else is 0
 abbrev pub Spans : ℕ → Bool → ℕ → ℕ → Type 0

@@ -3,11 +3,10 @@ use Prim.Native.Nat.{ℕ}
 use mathlib.Core.Path.{◌≡◌, refl, sym, subst}
 use native.Mathlib.Omega.{arith}
 use lib.ListN.{length}
+use Rattle.std.specs.Prelude.{None}
 use Rattle.ground.specs.Pick.{pick}
 use Rattle.ground.specs.Eight.{some}
-use Rattle.moments.specs.declared.Moment.{Moment}
-use Rattle.moments.specs.declared.Moment.TheVariants.{Never}
-use Rattle.moments.specs.Moments.{due_on}
+use Rattle.moments.specs.Moments.{Moment, due_on}
 use Rattle.head.specs.Timers.{timer}
 use Rattle.rooms.specs.declared.Room.{Room}
 use Rattle.recorder.specs.declared.Watch.{Watch}
@@ -80,6 +79,6 @@ inv_empty w sound =
       timers = refl;
       enabled = refl;
       own = λ p on.
-          subst (λ (x : Room). OwnWith w (empty w) p Never (shown (limits_of w p) x)) (sym (fresh_room p (one_of_eight w p on)))
+          subst (λ (x : Room). OwnWith w (empty w) p None (shown (limits_of w p) x)) (sym (fresh_room p (one_of_eight w p on)))
           (record { group = Group.calm (omega (arith, sound.enough p on)); dropped = refl; worst = omega arith });
     }

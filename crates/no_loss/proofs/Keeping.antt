@@ -6,12 +6,11 @@ use mathlib.Core.List.{List, [], ◌∷◌}
 use native.Mathlib.Nat.{le_of_eq}
 use native.Mathlib.Omega.{arith}
 use borrow.Author.Tests.{eq-eqb}
+use Rattle.std.specs.Prelude.{None, Some}
 use Rattle.ground.specs.Pick.{pick}
 use Rattle.ground.proofs.Pick.{pick_yes}
 use Rattle.units.specs.Units.{wire_time, pfc_time}
-use Rattle.moments.specs.declared.Moment.{Moment}
-use Rattle.moments.specs.declared.Moment.TheVariants.{Never, At}
-use Rattle.moments.specs.Moments.{at, refresh_from}
+use Rattle.moments.specs.Moments.{Moment, at, refresh_from}
 use Rattle.moments.proofs.Reached.{NotPast}
 use Rattle.frame.specs.Read.{verdict}
 use Rattle.head.specs.Timers.{timer}
@@ -54,10 +53,10 @@ module _ (w : Watch) (sound : SoundWatch w) (s : State) where
   refresh_is inv = go (some_wanted s.recorder.marks) s.recorder.marks.last inv.link.marked.started
     where
       go : (any : Bool) (last : Moment) → StartedBy s.clock last →
-          RefreshIs (terms_of w) any last (pick any (refresh_from last w.settings.refresh.0) Never)
+          RefreshIs (terms_of w) any last (pick any (refresh_from last w.settings.refresh.0) None)
       go false last h = refl
-      go true Never h = refl
-      go true (At m) h = ap (λ (k : ℕ). at k) (omega (arith, sound.terms.small_refresh, inv.link.time))
+      go true None h = refl
+      go true (Some m) h = ap (λ (k : ℕ). at k) (omega (arith, sound.terms.small_refresh, inv.link.time))
 
   -- kind 01
   pub kept_wait : (n : ℕ) → MayWait w s n → Inv w s → Inv w (waited w s n)

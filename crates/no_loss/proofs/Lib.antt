@@ -7,6 +7,7 @@ pub mod Calls
 pub mod Clearing
 pub mod Contract
 pub mod Counting
+pub mod Fits
 pub mod Group
 pub mod GroupSteps
 pub mod Invariant

@@ -4,35 +4,34 @@ use mathlib.Core.Bool.{Bool, true, false}
 use mathlib.Core.Path.{◌≡◌}
 use mathlib.Core.List.{List}
 use lib.ListN.{length}
-use Rattle.moments.specs.declared.Moment.{Moment}
-use Rattle.moments.specs.declared.Moment.TheVariants.{Never, At}
-use Rattle.moments.specs.Moments.{at}
+use Rattle.std.specs.Prelude.{None, Some}
+use Rattle.moments.specs.Moments.{Moment, at}
 use Rattle.bench_meaning.specs.State.{Frame, length_of}
 use Rattle.no_loss.proofs.Terms.{Terms, W}
 use Rattle.no_loss.proofs.Rows.{pfc_length, Each, Underway}
 
 -- "A due PFC frame must start within G + W", and B's wire is free by then
 abbrev pub DueInTime : Terms → ℕ → ℕ → Moment → Type 0
-DueInTime c t b_free Never = b_free ≤ t + W c
-DueInTime c t b_free (At d) = (d.0 ≤ t) × (t ≤ d.0 + c.G + W c) × (b_free ≤ d.0 + c.G + W c)
+DueInTime c t b_free None = b_free ≤ t + W c
+DueInTime c t b_free (Some d) = (d.0 ≤ t) × (t ≤ d.0 + c.G + W c) × (b_free ≤ d.0 + c.G + W c)
 
 -- where something is wanted and nothing is due, a PFC frame has started and its refresh is still to come
 abbrev pub Refreshed : Terms → ℕ → Bool → Moment → Moment → Type 0
 Refreshed c t false due last = Unit {0}
-Refreshed c t true (At d) last = Unit {0}
-Refreshed c t true Never Never = ⊥
-Refreshed c t true Never (At m) = t < m.0 + c.I
+Refreshed c t true (Some d) last = Unit {0}
+Refreshed c t true None None = ⊥
+Refreshed c t true None (Some m) = t < m.0 + c.I
 
 -- the last PFC frame started no later than now
 abbrev pub StartedBy : ℕ → Moment → Type 0
-StartedBy t Never = Unit {0}
-StartedBy t (At m) = m.0 ≤ t
+StartedBy t None = Unit {0}
+StartedBy t (Some m) = m.0 ≤ t
 
 -- the moment of the refresh, while something is wanted
 abbrev pub RefreshIs : Terms → Bool → Moment → Moment → Type 0
-RefreshIs c false last refresh = refresh ≡ Never
-RefreshIs c true Never refresh = refresh ≡ Never
-RefreshIs c true (At m) refresh = refresh ≡ at (m.0 + c.I)
+RefreshIs c false last refresh = refresh ≡ None
+RefreshIs c true None refresh = refresh ≡ None
+RefreshIs c true (Some m) refresh = refresh ≡ at (m.0 + c.I)
 
 -- the data frames under way, and the moment at which A's wire gets free
 pub record ToB (c : Terms) (t a_free : ℕ) (data_row : List Frame) : Type 0 where

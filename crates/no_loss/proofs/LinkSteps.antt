@@ -7,10 +7,9 @@ use native.Mathlib.Omega.{arith}
 use borrow.Author.Tests.{leb-true, leb-false}
 use lib.Dec.{leb}
 use lib.ListN.{length, length-append}
+use Rattle.std.specs.Prelude.{None, Some}
 use Rattle.ground.specs.Pick.{pick}
-use Rattle.moments.specs.declared.Moment.{Moment}
-use Rattle.moments.specs.declared.Moment.TheVariants.{Never, At}
-use Rattle.moments.specs.Moments.{at, due_on, due_by}
+use Rattle.moments.specs.Moments.{Moment, at, due_on, due_by}
 use Rattle.moments.proofs.Reached.{NotPast}
 use Rattle.bench_meaning.specs.State.{Frame, length_of}
 use Rattle.no_loss.proofs.Terms.{Terms, Sound, W}
@@ -21,55 +20,55 @@ module _ (c : Terms) where
   -- a mark changes, or none does
   due_in_time_on : (changed : Bool) (t b_free : ℕ) (due : Moment) → DueInTime c t b_free due → DueInTime c t b_free (due_on changed t due)
   unfolding due_on
-  due_in_time_on true t b_free Never d = omega arith
-  due_in_time_on false t b_free Never d = d
-  due_in_time_on changed t b_free (At first) d = d
+  due_in_time_on true t b_free None d = omega arith
+  due_in_time_on false t b_free None d = d
+  due_in_time_on changed t b_free (Some first) d = d
 
   -- a mark that changes makes PFC due, and where none changes as much is wanted as before
   refreshed_on : (changed : Bool) (t : ℕ) (some some' : Bool) (due last : Moment) → (changed ≡ false → some' ≡ some) → Refreshed c t some due last →
       Refreshed c t some' (due_on changed t due) last
   unfolding due_on
   refreshed_on changed t some false due last same r = tt
-  refreshed_on changed t some true (At first) last same r = tt
-  refreshed_on true t some true Never last same r = tt
-  refreshed_on false t true true Never last same r = r
-  refreshed_on false t false true Never last same r = let z : ◌≡◌ {A = ℕ} 0 1 = cc (same refl) in absurd (omega arith)
+  refreshed_on changed t some true (Some first) last same r = tt
+  refreshed_on true t some true None last same r = tt
+  refreshed_on false t true true None last same r = r
+  refreshed_on false t false true None last same r = let z : ◌≡◌ {A = ℕ} 0 1 = cc (same refl) in absurd (omega arith)
 
   -- time passes, and the refresh may fall due on the way
   due_passed : (t t' b_free : ℕ) (some : Bool) (due last refresh : Moment) → t ≤ t' → RefreshIs c some last refresh → Refreshed c t some due last →
       DueInTime c t b_free due → NotPast (due_by refresh t' due) (c.G + W c) t' →
       DueInTime c t' b_free (due_by refresh t' due) × Refreshed c t' some (due_by refresh t' due) last
   unfolding due_by pick
-  due_passed t t' b_free false (At d) last refresh h i r f past = (omega arith, tt)
-  due_passed t t' b_free true (At d) last refresh h i r f past = (omega arith, tt)
-  due_passed t t' b_free true Never Never refresh h i r f past = absurd r
-  due_passed t t' b_free false Never last Never h i r f past = (omega arith, tt)
-  due_passed t t' b_free false Never last (At m) h i r f past = let z : ◌≡◌ {A = ℕ} 0 1 = cc in absurd (omega arith)
-  due_passed t t' b_free true Never (At m) Never h i r f past = let z : ◌≡◌ {A = ℕ} 0 1 = cc in absurd (omega arith)
-  due_passed t t' b_free true Never (At m) (At when) h i r f past = go (leb when.0 t') refl past
+  due_passed t t' b_free false (Some d) last refresh h i r f past = (omega arith, tt)
+  due_passed t t' b_free true (Some d) last refresh h i r f past = (omega arith, tt)
+  due_passed t t' b_free true None None refresh h i r f past = absurd r
+  due_passed t t' b_free false None last None h i r f past = (omega arith, tt)
+  due_passed t t' b_free false None last (Some m) h i r f past = let z : ◌≡◌ {A = ℕ} 0 1 = cc in absurd (omega arith)
+  due_passed t t' b_free true None (Some m) None h i r f past = let z : ◌≡◌ {A = ℕ} 0 1 = cc in absurd (omega arith)
+  due_passed t t' b_free true None (Some m) (Some when) h i r f past = go (leb when.0 t') refl past
     where
       same : when.0 ≡ m.0 + c.I
       same = cc
 
-      go : (b : Bool) → leb when.0 t' ≡ b → NotPast (pick b (At when) Never) (c.G + W c) t' →
-          DueInTime c t' b_free (pick b (At when) Never) × Refreshed c t' true (pick b (At when) Never) (At m)
+      go : (b : Bool) → leb when.0 t' ≡ b → NotPast (pick b (Some when) None) (c.G + W c) t' →
+          DueInTime c t' b_free (pick b (Some when) None) × Refreshed c t' true (pick b (Some when) None) (Some m)
       go true e p = (omega (arith, same, leb-true when.0 t' e), tt)
       go false e p = (omega (arith, same), omega (arith, same, leb-false when.0 t' e))
 
   -- what started by now has started by any later time
   started_later : (t t' : ℕ) (last : Moment) → t ≤ t' → StartedBy t last → StartedBy t' last
-  started_later t t' Never h s = tt
-  started_later t t' (At m) h s = omega arith
+  started_later t t' None h s = tt
+  started_later t t' (Some m) h s = omega arith
 
   -- a PFC frame that starts now has its refresh before it
-  refreshed_by_start : (t : ℕ) (some : Bool) → 1 ≤ c.I → Refreshed c t some Never (at t)
+  refreshed_by_start : (t : ℕ) (some : Bool) → 1 ≤ c.I → Refreshed c t some None (at t)
   refreshed_by_start t false h = tt
   refreshed_by_start t true h = omega arith
 
   -- an other frame that starts within G of the due moment leaves the wire in time
   other_in_time : (t b_free b_free' : ℕ) (due : Moment) → b_free' ≤ t + W c → NotPast due c.G t → DueInTime c t b_free due → DueInTime c t b_free' due
-  other_in_time t b_free b_free' Never h p d = h
-  other_in_time t b_free b_free' (At first) h p d = omega arith
+  other_in_time t b_free b_free' None h p d = h
+  other_in_time t b_free b_free' (Some first) h p d = omega arith
 
   -- the refresh is looked after for each that is wanted
   refreshed_one : (t : ℕ) (one some : Bool) (due last : Moment) → (one ≡ true → some ≡ true) → Refreshed c t some due last →
@@ -147,7 +146,7 @@ module _ {c : Terms} {t a_free b_free : ℕ} {due last : Moment} {some : Bool} w
 
   -- kind 05
   pub link_started : {data_row pfc_row : List Frame} (f : Frame) → Sound c → b_free ≤ t → length pfc_row < 128 → f.end ≡ t + 84 →
-      Link c t a_free b_free due last some data_row pfc_row → Link c t a_free f.end Never (at t) some data_row (pfc_row ++ (f ∷ []))
+      Link c t a_free b_free due last some data_row pfc_row → Link c t a_free f.end None (at t) some data_row (pfc_row ++ (f ∷ []))
   link_started {pfc_row = pfc_row} f sound idle few ends l =
       record {
         time = l.time;

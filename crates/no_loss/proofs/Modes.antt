@@ -6,10 +6,9 @@ use mathlib.Core.List.{List, [], ◌∷◌, ◌++◌}
 use native.Mathlib.Nat.{lt_of_lt_of_le}
 use native.Mathlib.Omega.{arith}
 use lib.Dec.{leb}
+use Rattle.std.specs.Prelude.{None, Some}
 use Rattle.ground.specs.Pick.{pick}
-use Rattle.moments.specs.declared.Moment.{Moment}
-use Rattle.moments.specs.declared.Moment.TheVariants.{Never, At}
-use Rattle.moments.specs.Moments.{at, due_on, due_by}
+use Rattle.moments.specs.Moments.{Moment, at, due_on, due_by}
 use Rattle.bench_meaning.specs.State.{Frame}
 use Rattle.bench_meaning.specs.Step.{oldest_end}
 use Rattle.no_loss.proofs.Terms.{Terms, Sound, K, lost, slack, slack_within, slack_lost}
@@ -22,24 +21,24 @@ module _ (c : Terms) where
   -- a mark that changes makes PFC due, no later than the refresh
   prompt_on : (changed : Bool) (t : ℕ) (due last : Moment) → Refreshed c t true due last → Prompt c due last → Prompt c (due_on changed t due) last
   unfolding due_on
-  prompt_on true t Never Never r h = r
-  prompt_on true t Never (At m) r h = omega arith
-  prompt_on false t Never last r h = tt
-  prompt_on changed t (At d) last r h = h
+  prompt_on true t None None r h = r
+  prompt_on true t None (Some m) r h = omega arith
+  prompt_on false t None last r h = tt
+  prompt_on changed t (Some d) last r h = h
 
   -- PFC that is due stays due since its first moment
   waits_on : (changed : Bool) (t stop : ℕ) (due : Moment) → Waits c due stop → Waits c (due_on changed t due) stop
   unfolding due_on
-  waits_on changed t stop Never h = absurd h
-  waits_on changed t stop (At d) h = h
+  waits_on changed t stop None h = absurd h
+  waits_on changed t stop (Some d) h = h
 
   -- so does the refresh, as time passes
-  prompt_by : (refresh : Moment) (t m : ℕ) → refresh ≡ at (m + c.I) → Prompt c (due_by refresh t Never) (at m)
+  prompt_by : (refresh : Moment) (t m : ℕ) → refresh ≡ at (m + c.I) → Prompt c (due_by refresh t None) (at m)
   unfolding due_by pick
-  prompt_by Never t m e = tt
-  prompt_by (At r) t m e = go (leb r.0 t)
+  prompt_by None t m e = tt
+  prompt_by (Some r) t m e = go (leb r.0 t)
     where
-      go : (b : Bool) → Prompt c (pick b (At r) Never) (at m)
+      go : (b : Bool) → Prompt c (pick b (Some r) None) (at m)
       go true = let same : r.0 ≡ m + c.I = cc in omega arith
       go false = tt
 
@@ -47,20 +46,20 @@ module _ (c : Terms) where
   prompt_passed : (t t' : ℕ) (due last refresh : Moment) → Refreshed c t true due last → RefreshIs c true last refresh → Prompt c due last →
       Prompt c (due_by refresh t' due) last
   unfolding due_by
-  prompt_passed t t' Never Never refresh r i q = absurd r
-  prompt_passed t t' Never (At m) refresh r i q = prompt_by refresh t' m.0 i
-  prompt_passed t t' (At d) last refresh r i q = q
+  prompt_passed t t' None None refresh r i q = absurd r
+  prompt_passed t t' None (Some m) refresh r i q = prompt_by refresh t' m.0 i
+  prompt_passed t t' (Some d) last refresh r i q = q
 
   -- time passing does not change since when PFC is due
   waits_passed : (t' stop : ℕ) (due refresh : Moment) → Waits c due stop → Waits c (due_by refresh t' due) stop
   unfolding due_by
-  waits_passed t' stop Never refresh h = absurd h
-  waits_passed t' stop (At d) refresh h = h
+  waits_passed t' stop None refresh h = absurd h
+  waits_passed t' stop (Some d) refresh h = h
 
   -- a due PFC frame that starts in time takes effect by `stop`, which is still to come
   waits_ahead : (t b_free stop : ℕ) (due : Moment) → DueInTime c t b_free due → Waits c due stop → t ≤ stop
-  waits_ahead t b_free stop Never d h = absurd h
-  waits_ahead t b_free stop (At since) d h = omega arith
+  waits_ahead t b_free stop None d h = absurd h
+  waits_ahead t b_free stop (Some since) d h = omega arith
 
   -- the moment at which a timer would run out does not move as time passes
   timer_passed : (t t' timer timer' : ℕ) → t ≤ t' → timer' ≡ timer - (t' / 64 - t / 64) → 64 * (t / 64 + timer) ≤ 64 * (t' / 64 + timer')
@@ -73,18 +72,18 @@ module _ (c : Terms) where
   -- a PFC frame that starts in time ends within K of the one before
   close_enough : (t b_free since end : ℕ) (last : Moment) → DueInTime c t b_free (at since) → end ≡ t + 84 → Prompt c (at since) last → (e : ℕ) →
       EndedBy last e → end ≤ e + K c
-  close_enough t b_free since end Never d z q e h = absurd h
-  close_enough t b_free since end (At m) d z q e h = omega arith
+  close_enough t b_free since end None d z q e h = absurd h
+  close_enough t b_free since end (Some m) d z q e h = omega arith
 
 module _ (c : Terms) (Asks : Frame → Type 0) where
   -- the moment by which the next PFC frame takes effect has not passed
   next_ahead : (t b_free end : ℕ) (due last : Moment) (row : List Frame) → DueInTime c t b_free due → Refreshed c t true due last →
       InTime c.P t row → Current c Asks last end row → Prompt c due last → t ≤ end + K c + c.P
   unfolding oldest_end
-  next_ahead t b_free end Never Never [] d r p u q = absurd r
-  next_ahead t b_free end Never (At m) [] d r p u q = omega arith
-  next_ahead t b_free end (At since) Never [] d r p u q = absurd q
-  next_ahead t b_free end (At since) (At m) [] d r p u q = omega arith
+  next_ahead t b_free end None None [] d r p u q = absurd r
+  next_ahead t b_free end None (Some m) [] d r p u q = omega arith
+  next_ahead t b_free end (Some since) None [] d r p u q = absurd q
+  next_ahead t b_free end (Some since) (Some m) [] d r p u q = omega arith
   next_ahead t b_free end due last (f ∷ rest) d r p u q = omega (arith, u.1)
 
   -- an asking PFC frame under way takes effect by `stop`, which is still to come
@@ -158,7 +157,7 @@ module _ {c : Terms} {j : ℕ} {Mine : ℕ → Type 0} {Asks : Frame → Type 0}
 pub mode_started : {c : Terms} {j : ℕ} {Mine : ℕ → Type 0} {Asks : Frame → Type 0} {t since : ℕ} {timers : ℕ → ℕ} {last : Moment} {pfc_row : List Frame}
     {stop : ℕ} (b_free : ℕ) (f : Frame) →
     DueInTime c t b_free (at since) → f.end ≡ t + 84 → Asks f → Mode c j Mine Asks t timers (at since) last pfc_row stop →
-    Mode c j Mine Asks t timers Never (at t) (pfc_row ++ (f ∷ [])) stop
+    Mode c j Mine Asks t timers None (at t) (pfc_row ++ (f ∷ [])) stop
 mode_started {c} {j} {Asks = Asks} {t = t} {pfc_row = pfc_row} {stop = stop} b_free f d e a (Mode.waiting w) =
     Mode.asked (asking_first c Asks t stop (slack c j) pfc_row f a (omega arith) (slack_within c j) (omega arith)) tt
 mode_started {c} {j} {Asks = Asks} {t = t} {since = since} {last = last} {pfc_row = pfc_row} {stop = stop} b_free f d e a (Mode.asked b q) =

@@ -9,13 +9,13 @@ use mathlib.Core.List.{List}
 use native.Mathlib.Omega.{arith}
 use Rattle.settings.specs.declared.Settings.{Settings}
 use Rattle.settings.specs.Settings.{is_enabled, settings_refusal}
-use Rattle.records.specs.declared.Record.{Record}
+use Rattle.records.specs.Records.{Asked}
 use Rattle.no_loss.specs.Runs.{watch_of, NothingLost}
 use Rattle.no_loss.proofs.Watches.{sound_watch}
 use Rattle.no_loss.proofs.Run.{inv_reached}
 use Rattle.no_loss.proofs.Counting.{counted_from_start}
 
-pub no_loss : (s : Settings) → settings_refusal s ≡ 0 → s.pause < 65536 → (records : List Record) (priority : ℕ) →
+pub no_loss : (s : Settings) → settings_refusal s ≡ 0 → s.pause < 65536 → (records : List Asked) (priority : ℕ) →
     is_enabled s.enabled priority ≡ true → NothingLost s records priority
 no_loss s accepted fits records priority on =
     let sound = sound_watch s accepted fits in

@@ -11,7 +11,7 @@ use Rattle.moments.specs.Moments.{is_ahead}
 use Rattle.moments.proofs.Reached.{not_past}
 use Rattle.settings.specs.declared.Settings.{Settings}
 use Rattle.settings.specs.Settings.{settings_refusal}
-use Rattle.records.specs.declared.Record.{Record}
+use Rattle.records.specs.Records.{Asked}
 use Rattle.bench_meaning.specs.State.{Frame, Direction, length_of}
 use Rattle.bench_meaning.specs.Step.{oldest_end, none_ended, overdue}
 use Rattle.no_loss.specs.Runs.{watch_of, reached}
@@ -61,7 +61,7 @@ decides long direction follows =
     }
 
 -- both directions of the link
-pub oldest_decides : (s : Settings) → settings_refusal s ≡ 0 → s.pause < 65536 → (records : List Record) →
+pub oldest_decides : (s : Settings) → settings_refusal s ≡ 0 → s.pause < 65536 → (records : List Asked) →
     OldestDecides (reached s records).to_b × OldestDecides (reached s records).to_a
 oldest_decides s accepted fits records =
     let link = (inv_reached (watch_of s) (sound_watch s accepted fits) records).link in

@@ -4,8 +4,7 @@ use mathlib.Core.Bool.{Bool, true, false, false≢true}
 use mathlib.Core.Path.{◌≡◌, sym, ◌∙◌, subst}
 use mathlib.Core.List.{List, ◌∷◌}
 use native.Mathlib.Omega.{arith}
-use Rattle.moments.specs.declared.Moment.{Moment}
-use Rattle.moments.specs.Moments.{due_on}
+use Rattle.moments.specs.Moments.{Moment, due_on}
 use Rattle.recorder.specs.declared.Watch.{Watch}
 use Rattle.recorder.specs.Watching.{limits_of}
 use Rattle.bench_meaning.specs.State.{Frame, priority_of, length_of}

@@ -11,6 +11,7 @@ use Rattle.settings.specs.declared.Settings.{Settings}
 use Rattle.settings.specs.Settings.{settings_refusal}
 use Rattle.recorder.specs.declared.Watch.{Watch}
 use Rattle.bench_meaning.specs.State.{empty}
+use Rattle.bench_state.specs.Answered.{bench_after}
 use Rattle.bench_memory.specs.Memory.{Memory, memory_of, view_of, Lent}
 use Rattle.bench_memory.specs.Answers.{step_memory}
 use Rattle.bench_steps.proofs.step.step.Kinds as step_kinds
@@ -19,16 +20,16 @@ use Rattle.no_loss.specs.Runs.{watch_of}
 use Rattle.no_loss.specs.Calls.{after_calls, CallsLoseNothing}
 use Rattle.no_loss.proofs.Calls.{calls_lose_nothing}
 
--- the memory that is lent to a call, and the one that it leaves
+-- the memory that is lent to a call, and the one that it leaves: by value what it answers, or what went before where it is refused
 module _ (κs : Lfts 6) where
   abbrev pub memory_lent : Dens κs step_kinds.ps → Memory
   memory_lent args =
       memory_of args.1.0 args.1.1.0.now args.1.1.1.0.now args.1.1.1.1.0.now args.1.1.1.1.1.0.now
       args.1.1.1.1.1.1.0.now
 
-  abbrev pub memory_left : (res_t step_kinds.r κs).Denot → AtExit (ended_of 6 step_kinds.ps step_kinds.r) κs → Memory
-  memory_left answer exit =
-      memory_of answer.bench exit.1.1.0.now exit.1.1.1.0.now exit.1.1.1.1.0.now exit.1.1.1.1.1.0.now
+  abbrev pub memory_left : Dens κs step_kinds.ps → (res_t step_kinds.r κs).Denot → AtExit (ended_of 6 step_kinds.ps step_kinds.r) κs → Memory
+  memory_left args answer exit =
+      memory_of (bench_after answer args.1.0) exit.1.1.0.now exit.1.1.1.0.now exit.1.1.1.1.0.now exit.1.1.1.1.1.0.now
       exit.1.1.1.1.1.1.0.now
 
 -- a call with these octets takes one memory over and leaves another, as the contract permits
@@ -41,7 +42,7 @@ pub record Permitted (w : Watch) (taken : Memory) (octets : List ℕ) (left : Me
   pub watch_is : args.0 ≡ w
   pub taken_is : memory_lent κs args ≡ taken
   pub octets_are : args.1.1.1.1.1.1.1.0.now ≡ octets
-  pub left_is : memory_left κs answer exit ≡ left
+  pub left_is : memory_left κs args answer exit ≡ left
 
 -- calls in a row: each takes over the memory that the one before left
 pub data InARow (w : Watch) : Memory → List (List ℕ) → Memory → Type 0 where
@@ -54,7 +55,7 @@ left_by : {w : Watch} {m left : Memory} {calls : List (List ℕ)} → InARow w m
 unfolding after_calls
 left_by InARow.none = refl
 left_by {w} {m} (InARow.call {octets = octets} {calls = calls} one others) =
-    let is = sym one.left_is ∙ one.promised.2 ∙ (λ i. step_memory (one.watch_is i) (one.taken_is i) (one.octets_are i)) in
+    let is = sym one.left_is ∙ one.promised.1.1 ∙ (λ i. step_memory (one.watch_is i) (one.taken_is i) (one.octets_are i)) in
     left_by others ∙ ap (λ (next : Memory). after_calls w next calls) is
 
 pub permitted_calls_lose_nothing : (s : Settings) → settings_refusal s ≡ 0 → s.pause < 65536 → (m : Memory) → Lent m →

@@ -12,20 +12,21 @@ use native.Mathlib.Omega.{arith}
 use borrow.Author.Tests.{eqb-true}
 use lib.Dec.{eqb}
 use lib.ListN.{length, get_or, drop}
+use Rattle.std.specs.Prelude.{Option, None, Ok, Err}
+use Rattle.refusals.specs.declared.Refusal.{Refusal}
 use Rattle.ground.specs.Pick.{pick}
 use Rattle.ground.specs.Eight.{eight}
 use Rattle.ground.proofs.Pick.{pick_yes}
 use Rattle.ground.proofs.Eight.{get_d_eight}
+use Rattle.refusals.specs.Refusals.{numbered, refused_or}
 use Rattle.octets.specs.Numbers.{octet_at}
 use Rattle.settings.specs.declared.Settings.{Settings}
-use Rattle.settings.specs.declared.Settling.TheVariants.{Accepted, Refused}
 use Rattle.settings.specs.Settings.{is_enabled, settings_refusal, settling}
 use Rattle.settings.proofs.Enabled.{none_enabled}
 use Rattle.settings.proofs.SettingsLaws.{enabled_below}
 use Rattle.recorder.specs.declared.Watch.{Watch}
 use Rattle.recorder.specs.Watching.{room_at}
-use Rattle.records.specs.declared.Record.{Record}
-use Rattle.records.specs.Records.{record_length, decoded}
+use Rattle.records.specs.Records.{Asked, record_length, decoded}
 use Rattle.bench_meaning.specs.declared.Report.{Report}
 use Rattle.bench_meaning.specs.State.{State, empty}
 use Rattle.bench_meaning.specs.Step.{refusal_of, next_of, step_of}
@@ -42,20 +43,21 @@ record CountsOf (report : Report) (s : State) : Type 0 where
   worst : report.worst ≡ eight (λ n. (room_at s.recorder n).worst)
 
 -- a report tells of records from a state on: it counts them beside those before, none of them is refused, and its counts are those after them
-record TellsOf (w : Watch) (s : State) (steps : ℕ) (records : List Record) (report : Report) : Type 0 where
+record TellsOf (w : Watch) (s : State) (steps : ℕ) (records : List Asked) (report : Report) : Type 0 where
   enabled_is : report.enabled ≡ w.settings.enabled
   steps_are : report.steps ≡ steps + length records
   none_refused : AllAccepted w s records
   counts : CountsOf report (after w s records)
 
 -- where a run ends it takes no more records
-ended : (w : Watch) (s : State) (steps refusal at : ℕ) → TellsOf w s steps [] (report_of w.settings.enabled s steps refusal at)
+ended : (w : Watch) (s : State) (steps : ℕ) (refusal : Option Refusal) (at : ℕ) →
+    TellsOf w s steps [] (report_of w.settings.enabled s steps refusal at)
 unfolding after AllAccepted
 ended w s steps refusal at =
     record { enabled_is = refl; steps_are = omega arith; none_refused = tt; counts = record { held = refl; dropped = refl; worst = refl } }
 
 -- one record more: an accepted one goes before those that follow, a refused one ends the run
-one_more : (w : Watch) (s : State) (steps : ℕ) (asked : Record) (accepted : Bool) (records : List Record) (follows ends : Report) →
+one_more : (w : Watch) (s : State) (steps : ℕ) (asked : Asked) (accepted : Bool) (records : List Asked) (follows ends : Report) →
     eqb (refusal_of w s asked) 0 ≡ accepted → TellsOf w s steps [] ends → TellsOf w (next_of w s asked) (steps + 1) records follows →
     TellsOf w s steps (pick accepted (asked ∷ records) []) (pick accepted follows ends)
 unfolding after AllAccepted step_of pick
@@ -73,8 +75,8 @@ one_more w s steps asked true records follows ends e same then =
 run_accepts : (fuel : ℕ) (w : Watch) (s : State) (steps : ℕ) (octets : List ℕ) →
     TellsOf w s steps (accepted_from fuel w s octets) (run_from fuel w s steps octets)
 unfolding run_from accepted_from
-run_accepts zero w s steps octets = ended w s steps 0 0
-run_accepts (suc fuel) w s steps [] = ended w s steps 0 0
+run_accepts zero w s steps octets = ended w s steps None 0
+run_accepts (suc fuel) w s steps [] = ended w s steps None 0
 run_accepts (suc fuel) w s steps (kind ∷ rest) =
     one_more w s steps (decoded (kind ∷ rest)) _ _ _ _ refl (ended w s steps _ _)
     (run_accepts fuel w (next_of w s (decoded (kind ∷ rest))) (steps + 1) (drop (record_length kind) (kind ∷ rest)))
@@ -111,14 +113,14 @@ follow_keeps s accepted fits octets =
     }
 
 -- a run that does not begin reports no record and no priority
-begins_not : (s : Settings) (number : ℕ) → LosesNothing s 0 [] (refused_report number)
+begins_not : (s : Settings) (refusal : Refusal) → LosesNothing s 0 [] (refused_report refusal)
 unfolding AllAccepted
-begins_not s number =
+begins_not s refusal =
     record { enabled_is = refl; steps_are = refl; none_refused = tt; keeps = λ priority on. absurd (none_enabled priority on) }
 
 -- 45, 44 or 31; else the settings decide
 pub nothing_lost_in_a_run : (input : List ℕ) → Octets input → LosesNothingOf input (run_of input)
-unfolding run_of settling begins accepted_in enabled_in pick settled_by
+unfolding run_of settling refused_or begins accepted_in enabled_in pick settled_by
 nothing_lost_in_a_run input octets = go (eqb (input_refusal (octet_at input 0) (length input)) 0) (eqb (settings_refusal s) 0) refl
   where
     s : Settings
@@ -126,8 +128,8 @@ nothing_lost_in_a_run input octets = go (eqb (input_refusal (octet_at input 0) (
 
     go : (whole accepted : Bool) → eqb (settings_refusal s) 0 ≡ accepted →
         LosesNothing s (pick (pick whole accepted false) s.enabled 0) (pick (pick whole accepted false) (accepted_after s (drop 58 input)) [])
-        (pick whole (settled_by (pick accepted (Accepted (watch_of s).kept) (Refused (settings_refusal s))) input)
-        (refused_report (input_refusal (octet_at input 0) (length input))))
+        (pick whole (settled_by (pick accepted (Ok (watch_of s).kept) (Err (numbered (settings_refusal s)))) input)
+        (refused_report (numbered (input_refusal (octet_at input 0) (length input)))))
     go false accepted e = begins_not s _
     go true false e = begins_not s _
     go true true e = follow_keeps s (eqb-true _ _ e) (omega (arith, octets 16, octets 17)) (drop 58 input)

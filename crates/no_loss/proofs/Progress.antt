@@ -5,9 +5,10 @@
 use Prim.Native.Nat.{◌+◌, ◌^◌, ◌<◌}
 use mathlib.Core.Path.{◌≡◌}
 use mathlib.Core.List.{List}
+use Rattle.std.specs.Prelude.{Ok}
 use Rattle.settings.specs.declared.Settings.{Settings}
 use Rattle.settings.specs.Settings.{settings_refusal}
-use Rattle.records.specs.declared.Record.{Record}
+use Rattle.records.specs.Records.{Asked}
 use Rattle.records.specs.declared.Record.TheVariants as record'
 use Rattle.bench_meaning.specs.Step.{refusal_of, next_of}
 use Rattle.no_loss.specs.Runs.{watch_of, reached, Reaches}
@@ -17,15 +18,15 @@ use Rattle.no_loss.proofs.Refusals.{wait_accepted}
 use Rattle.no_loss.proofs.Waiting.{may_wait_zero, zero_changes_nothing}
 use Rattle.no_loss.proofs.Clearing.{clear}
 
-pub time_passes : (s : Settings) → settings_refusal s ≡ 0 → s.pause < 65536 → (records : List Record) → (reached s records).clock < 2 ^ 40 →
+pub time_passes : (s : Settings) → settings_refusal s ≡ 0 → s.pause < 65536 → (records : List Asked) → (reached s records).clock < 2 ^ 40 →
     Reaches (watch_of s) (reached s records) ((reached s records).clock + 1)
 time_passes s accepted fits records early =
     let sound = sound_watch s accepted fits in
     clear (watch_of s) sound (reached s records) early (inv_reached (watch_of s) sound records)
 
-pub zero_wait : (s : Settings) → settings_refusal s ≡ 0 → s.pause < 65536 → (records : List Record) →
-    (refusal_of (watch_of s) (reached s records) (record'.Wait 0) ≡ 0) ×
-    (next_of (watch_of s) (reached s records) (record'.Wait 0) ≡ reached s records)
+pub zero_wait : (s : Settings) → settings_refusal s ≡ 0 → s.pause < 65536 → (records : List Asked) →
+    (refusal_of (watch_of s) (reached s records) (Ok (record'.Wait 0)) ≡ 0) ×
+    (next_of (watch_of s) (reached s records) (Ok (record'.Wait 0)) ≡ reached s records)
 unfolding next_of
 zero_wait s accepted fits records =
     let w = watch_of s in

@@ -4,6 +4,7 @@ use Prim.Native.Nat.{ℕ, ◌+◌, ◌^◌, ◌≤◌, ◌<◌}
 use mathlib.Core.Bool.{true, false}
 use mathlib.Core.Path.{◌≡◌, ◌∙◌}
 use native.Mathlib.Omega.{arith}
+use Rattle.std.specs.Prelude.{Ok}
 use borrow.Author.Tests.{ltb-false, leb-false, le-ltb, lt-leb, not-false}
 use lib.ListN.{length}
 use Rattle.ground.specs.First.{first_of}
@@ -34,7 +35,7 @@ pub record MayWait (w : Watch) (s : State) (n : ℕ) : Type 0 where
   pub due_time : NotPast (due_then w s (s.clock + n)) (w.kept.generation.0 + w.kept.wire.0) (s.clock + n)
 
 module _ (w : Watch) (s : State) (n : ℕ) where
-  pub may_wait : refusal_of w s (record'.Wait n) ≡ 0 → MayWait w s n
+  pub may_wait : refusal_of w s (Ok (record'.Wait n)) ≡ 0 → MayWait w s n
   unfolding refusal_of wait_number overrun first_of
   may_wait e =
       let one = passed _ 41 _ (omega arith) e in
@@ -48,7 +49,7 @@ module _ (w : Watch) (s : State) (n : ℕ) where
         due_time = not_past _ _ _ others.1;
       }
 
-  pub wait_accepted : MayWait w s n → refusal_of w s (record'.Wait n) ≡ 0
+  pub wait_accepted : MayWait w s n → refusal_of w s (Ok (record'.Wait n)) ≡ 0
   unfolding refusal_of wait_number overrun first_of
   wait_accepted may =
       let others = pick_no true _ (not_past_due _ _ _ may.pfc_time) ∙ not_past_due _ _ _ may.due_time in
@@ -61,7 +62,7 @@ pub record MayStartData (w : Watch) (s : State) (priority size : ℕ) : Type 0 w
   pub idle : s.to_b.free ≤ s.clock
   pub not_paused : timer s.head priority ≤ 0
 
-pub may_start_data : (w : Watch) (s : State) (priority size : ℕ) → refusal_of w s (record'.StartData priority size) ≡ 0 → MayStartData w s priority size
+pub may_start_data : (w : Watch) (s : State) (priority size : ℕ) → refusal_of w s (Ok (record'.StartData priority size)) ≡ 0 → MayStartData w s priority size
 unfolding refusal_of start_data_number first_of
 may_start_data w s priority size e =
     let one = passed _ 32 _ (omega arith) e in
@@ -90,7 +91,7 @@ pub record MayStartOther (w : Watch) (s : State) (size : ℕ) : Type 0 where
   pub idle : s.to_a.free ≤ s.clock
   pub in_time : NotPast s.recorder.marks.due w.kept.generation.0 s.clock
 
-pub may_start_other : (w : Watch) (s : State) (size : ℕ) → refusal_of w s (record'.StartOther size) ≡ 0 → MayStartOther w s size
+pub may_start_other : (w : Watch) (s : State) (size : ℕ) → refusal_of w s (Ok (record'.StartOther size)) ≡ 0 → MayStartOther w s size
 unfolding refusal_of start_other_number first_of
 may_start_other w s size e =
     let one = passed _ 33 _ (omega arith) e in
@@ -106,7 +107,7 @@ pub record MayStartPfc (s : State) : Type 0 where
   pub few : length s.to_a.row < 128
 
 module _ (w : Watch) (s : State) where
-  pub may_start_pfc : refusal_of w s record'.StartPfc ≡ 0 → MayStartPfc s
+  pub may_start_pfc : refusal_of w s (Ok record'.StartPfc) ≡ 0 → MayStartPfc s
   unfolding refusal_of start_pfc_number first_of
   may_start_pfc e =
       let one = passed _ 39 _ (omega arith) e in
@@ -115,7 +116,7 @@ module _ (w : Watch) (s : State) where
       let first = is_at _ one.0 in
       record { since = first.0; due = first.1; idle = ltb-false _ _ two.0; few = leb-false _ _ three.0 }
 
-  pub start_pfc_accepted : MayStartPfc s → refusal_of w s record'.StartPfc ≡ 0
+  pub start_pfc_accepted : MayStartPfc s → refusal_of w s (Ok record'.StartPfc) ≡ 0
   unfolding refusal_of start_pfc_number first_of
   start_pfc_accepted may =
       pick_no 39 _ (not_never _ may.since may.due) ∙ pick_no 34 _ (le-ltb _ _ may.idle) ∙ pick_no 36 0 (lt-leb _ _ may.few)

@@ -6,12 +6,11 @@ use native.Mathlib.Nat.{add-zero}
 use native.Mathlib.Omega.{arith}
 use borrow.Author.Tests.{lt-leb}
 use lib.Dec.{leb}
+use Rattle.std.specs.Prelude.{None, Some}
 use Rattle.ground.specs.Pick.{pick}
 use Rattle.head.specs.Timers.{after_quanta}
 use Rattle.head.proofs.Timers.{passed_none}
-use Rattle.moments.specs.declared.Moment.{Moment}
-use Rattle.moments.specs.declared.Moment.TheVariants.{Never, At}
-use Rattle.moments.specs.Moments.{due_by}
+use Rattle.moments.specs.Moments.{Moment, due_by}
 use Rattle.moments.proofs.Reached.{NotPast}
 use Rattle.recorder.specs.declared.Watch.{Watch}
 use Rattle.marks.specs.Marks.{some_wanted, with_due}
@@ -29,31 +28,31 @@ use Rattle.no_loss.proofs.Keeping.{refresh_in, refresh_is}
 refresh_ahead : (c : Terms) (t : ℕ) (some : Bool) (due last refresh : Moment) → RefreshIs c some last refresh → Refreshed c t some due last →
     due_by refresh t due ≡ due
 unfolding due_by pick
-refresh_ahead c t some (At d) last refresh i r = refl
-refresh_ahead c t some Never last Never i r = refl
-refresh_ahead c t false Never last (At m) i r = let z : ◌≡◌ {A = ℕ} 0 1 = cc in absurd (omega arith)
-refresh_ahead c t true Never Never (At m) i r = absurd r
-refresh_ahead c t true Never (At last) (At m) i r = let same : m.0 ≡ last.0 + c.I = cc in rw (lt-leb m.0 t (omega arith))
+refresh_ahead c t some (Some d) last refresh i r = refl
+refresh_ahead c t some None last None i r = refl
+refresh_ahead c t false None last (Some m) i r = let z : ◌≡◌ {A = ℕ} 0 1 = cc in absurd (omega arith)
+refresh_ahead c t true None None (Some m) i r = absurd r
+refresh_ahead c t true None (Some last) (Some m) i r = let same : m.0 ≡ last.0 + c.I = cc in rw (lt-leb m.0 t (omega arith))
 
 -- no due moment is past its bound now
 not_past_now : (c : Terms) (t b_free : ℕ) (due : Moment) → DueInTime c t b_free due → NotPast due (c.G + W c) t
-not_past_now c t b_free Never d = tt
-not_past_now c t b_free (At first) d = omega arith
+not_past_now c t b_free None d = tt
+not_past_now c t b_free (Some first) d = omega arith
 
 -- what a refresh that falls due at the next octet time leaves open
 pub not_past_next : (c : Terms) (t : ℕ) (some : Bool) (due last refresh : Moment) → RefreshIs c some last refresh → Refreshed c t some due last →
     NotPast due (c.G + W c) (t + 1) → NotPast (due_by refresh (t + 1) due) (c.G + W c) (t + 1)
 unfolding due_by pick
-not_past_next c t some (At d) last refresh i r h = h
-not_past_next c t some Never last Never i r h = tt
-not_past_next c t false Never last (At m) i r h = let z : ◌≡◌ {A = ℕ} 0 1 = cc in absurd (omega arith)
-not_past_next c t true Never Never (At m) i r h = absurd r
-not_past_next c t true Never (At last) (At m) i r h = go (leb m.0 (t + 1))
+not_past_next c t some (Some d) last refresh i r h = h
+not_past_next c t some None last None i r h = tt
+not_past_next c t false None last (Some m) i r h = let z : ◌≡◌ {A = ℕ} 0 1 = cc in absurd (omega arith)
+not_past_next c t true None None (Some m) i r h = absurd r
+not_past_next c t true None (Some last) (Some m) i r h = go (leb m.0 (t + 1))
   where
     same : m.0 ≡ last.0 + c.I
     same = cc
 
-    go : (b : Bool) → NotPast (pick b (At m) Never) (c.G + W c) (t + 1)
+    go : (b : Bool) → NotPast (pick b (Some m) None) (c.G + W c) (t + 1)
     go true = omega (arith, same)
     go false = tt
 

@@ -4,8 +4,7 @@ use Rattle.settings.specs.declared.Settings.{Settings}
 use Rattle.settings.specs.Settings.{is_enabled, headroom_of}
 use Rattle.recorder.specs.declared.Watch.{Watch}
 use Rattle.recorder.specs.Watching.{room_at}
-use Rattle.records.specs.declared.Record.{Record}
-use Rattle.records.specs.Records.{decoded}
+use Rattle.records.specs.Records.{Asked, decoded}
 use Rattle.bench_memory.specs.Memory.{Memory, view_of, Lent}
 use Rattle.bench_memory.specs.Answers.{step_memory}
 use Rattle.no_loss.specs.Runs.{reached}
@@ -16,7 +15,7 @@ after_calls w m [] = m
 after_calls w m (octets ∷ calls) = after_calls w (step_memory w m octets) calls
 
 -- the records that the calls ask for
-unfoldable pub records_of : List (List ℕ) → List Record
+unfoldable pub records_of : List (List ℕ) → List Asked
 records_of [] = []
 records_of (octets ∷ calls) = decoded octets ∷ records_of calls
 

@@ -1,4 +1,4 @@
 -- Laws of octets and their bits, for the layers above.
 pub mod BitLaws
 pub mod Decided
-pub mod NumberLaws
+pub mod Gathered

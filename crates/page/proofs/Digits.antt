@@ -10,8 +10,7 @@ use Rattle.std.specs.Fmt.{decimal}
 use Rattle.std.proofs.lemmas.Fmt.{decimal_by_steps}
 use borrow.Author.Tests.{lt-ltb}
 use Rattle.page.specs.Digits.{digit_ascii, last_digits, IsDigitCount}
-use Rattle.page.specs.Page.{NumberPut, put_on}
-use Rattle.page.specs.declared.Page.{Page}
+use Rattle.page.specs.Page.{Content, NumberPut, put_on}
 
 ten_times : (k : ℕ) → 10 ^ suc k ≡ 10 * 10 ^ k
 ten_times k = omega (arith, pow-suc 10 k)
@@ -52,7 +51,7 @@ more m text large digits =
           ap (λ (k : ℕ). last_digits 10 k m) (sym longer),
     )
 
-pub number_put : (page : Page) (n : ℕ) (after : Page) → n < 2 ^ 64 → after ≡ put_on page (decimal n) → NumberPut page n after
+pub number_put : (page : Content) (n : ℕ) (after : Content) → n < 2 ^ 64 → after ≡ put_on page (decimal n) → NumberPut page n after
 number_put page n after fits is =
     let digits = decimal_by_steps AreDigits one more n fits in
     record { count = length (decimal n); fewest = digits.0; is = is ∙ ap (put_on page) digits.1; printed = is }

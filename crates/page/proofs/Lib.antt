@@ -1,4 +1,3 @@
 -- The laws and the proofs of this crate.
 pub mod Decided
 pub mod Digits
-pub mod Room

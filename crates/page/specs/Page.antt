@@ -1,41 +1,27 @@
--- A page of octets that is filled before it is written, and what putting words and numbers on it gives.
-use Rattle.std.specs.Prelude.{ℕ, ◌+◌, ◌-◌, ◌≡◌, length, take, drop, ltb}
-use mathlib.Core.List.{List, ◌++◌, replicate}
+-- What is on a page of octets that is filled before it is written, and what putting words and numbers on it gives.
+use Rattle.std.specs.Prelude.{ℕ, ◌+◌, ◌≡◌, Bool, true, false, not, nat_le, ◌&&◌, if◌then◌else◌, List, [], ◌++◌, length}
 use Rattle.std.specs.Fmt.{decimal}
-use Rattle.ground.specs.Pick.{pick}
 use Rattle.page.specs.Digits.{last_digits, IsDigitCount}
-use Rattle.page.specs.declared.Page.{Page}
+
+-- the octets on a page, and whether there was something that did not fit
+pub record Content : Type 0 where
+  pub octets : List ℕ
+  pub is_overfull : Bool
 
 -- a page with nothing on it
-abbrev pub blank_page : Page
-blank_page = record { octets = replicate 8192 0; used = 0 }
+abbrev pub blank_page : Content
+blank_page = record { octets = []; is_overfull = false }
 
--- how many octets an overfull page says that it has
-abbrev pub overfull : ℕ
-overfull = 18446744073709551615
+-- whether so many octets more fit on a page: it holds 8192, and nothing more once it is overfull
+abbrev pub has_room : Content → ℕ → Bool
+has_room page count = not page.is_overfull && nat_le (length page.octets + count) 8192
 
--- this where so many octets, so many of them used, have room for so many more; else that
-unfoldable pub if_room : {A : Type 0} → ℕ → ℕ → ℕ → A → A → A
-unfolding pick
-if_room size used count this that = pick (ltb size used) that (pick (ltb (size - used) count) that this)
-
--- how many octets are used once so many more are put behind them, if they fit
-unfoldable pub used_after : ℕ → ℕ → ℕ → ℕ
-used_after size used count = if_room size used count (used + count) overfull
-
--- the octets with the words behind those that are used, if they fit; else as they were
-unfoldable pub octets_after : List ℕ → ℕ → List ℕ → List ℕ
-octets_after octets used words = if_room (length octets) used (length words) (take used octets ++ (words ++ drop (used + length words) octets)) octets
-
--- the page once words were put on it
-abbrev pub put_on : Page → List ℕ → Page
-put_on page words = record {
-  octets = octets_after page.octets page.used words;
-  used = used_after (length page.octets) page.used (length words);
-}
+-- the page once words were put on it: they stand behind what was on it, or it is overfull with what was on it
+abbrev pub put_on : Content → List ℕ → Content
+put_on page words = if has_room page (length words) then record page { octets = page.octets ++ words } else record page { is_overfull = true }
 
 -- the page before and after a number was put on it: its decimal digits, as few as hold it and at least one, which are what std prints of it
-pub record NumberPut (page : Page) (n : ℕ) (after : Page) : Type 0 where
+pub record NumberPut (page : Content) (n : ℕ) (after : Content) : Type 0 where
   pub count : ℕ
   pub fewest : IsDigitCount 10 1 n count
   pub is : after ≡ put_on page (last_digits 10 count n)

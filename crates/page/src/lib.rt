@@ -1,63 +1,75 @@
-// A page: octets that are collected before any of them is written, and how many are on it. What does not fit leaves the page as it is and
-// marks it overfull.
+// A page: octets that are collected before any of them is written. What does not fit leaves what is on the page as it is and marks the page
+// overfull; nothing more goes on it then.
 #![tactic(auto)]
 
-ghost use Rattle.std.specs.Prelude.{◌≡◌, length};
-ghost use Rattle.page.specs.Page.{blank_page, used_after, octets_after, put_on, NumberPut};
+ghost use Rattle.std.specs.Prelude.{◌≡◌, ◌↔◌, IsTrue, IsNone, IfSome};
+ghost use Rattle.page.specs.Page.{blank_page, put_on, NumberPut};
 
 use itoa::Buffer;
+use std::marker::Model;
 
-// How many octets an overfull page says that it has: more than any page holds.
-const OVERFULL: usize = 18_446_744_073_709_551_615;
-
-// Octets, and how many of them are used.
-#[derive(Clone, Copy)]
+// The octets on a page are its first, as many as are used.
+#[derive(Drop)]
 pub struct Page {
-    pub octets: [u8; 8192],
-    pub used: usize,
+    octets: [u8; 8192],
+    used: usize,
+    is_overfull: bool,
 }
 
-// A page with nothing on it.
-pub fn blank() -> Page
-    ensures { result ≡ blank_page }
-{
-    Page {
-        octets: [0u8; 8192],
-        used: 0,
+// A contract sees what is on a page, and whether it is overfull.
+impl Model for Page {
+    ghost use Rattle.std.specs.Prelude.{◌≤◌, take};
+    ghost use Rattle.page.specs.Page.{Content};
+
+    ghost Value = { Content };
+
+    ghost view = { λ page. record { octets = take page.used page.octets; is_overfull = page.is_overfull } };
+
+    ghost invariant = { λ page. page.used ≤ 8192 };
+}
+
+impl Page {
+    // A page with nothing on it.
+    pub fn blank() -> Page
+        ensures { result ≡ blank_page }
+    {
+        Page {
+            octets: [0u8; 8192],
+            used: 0,
+            is_overfull: false,
+        }
     }
-}
 
-// Words put behind the octets that are used: how many are used then. Where they do not fit the octets stay, and more than all are used.
-#[tactic(auto, using(crate::proofs::Room::room), unfolding(crate::specs::Page::octets_after, crate::specs::Page::used_after))]
-fn put_behind(octets: &mut [u8], used: usize, words: &[u8]) -> usize
-    ensures value { result ≡ used_after (length octets.old) used (length words.now) }
-    ensures octets_after { octets.new ≡ octets_after octets.old used words.now }
-{
-    if octets.len() < used {
-        return OVERFULL;
+    // Puts words on the page behind what is on it.
+    pub fn put(&mut self, words: &[u8])
+        ensures { self.new ≡ put_on self.old words.now }
+    {
+        if self.is_overfull || self.octets.len() - self.used < words.len() {
+            self.is_overfull = true;
+            return;
+        }
+        let end = self.used + words.len();
+        self.octets[self.used..end].copy_from_slice(words);
+        self.used = end;
     }
-    if octets.len() - used < words.len() {
-        return OVERFULL;
+
+    // Puts a number on the page, in decimal. (By itoa: `write!` would answer a Result for what the page itself remembers.)
+    #[tactic(auto, using(crate::proofs::Digits::number_put))]
+    pub fn number(&mut self, n: u64)
+        ensures { NumberPut self.old n self.new }
+    {
+        let mut digits = Buffer::new();
+        self.put(digits.format(n).as_bytes());
     }
-    let end = used + words.len();
-    octets[used..end].copy_from_slice(words);
-    end
-}
 
-// Puts words on the page behind what is on it.
-pub fn put(page: Page, words: &[u8]) -> Page
-    ensures { result ≡ put_on page words.now }
-{
-    let mut octets = page.octets;
-    let used = put_behind(&mut octets, page.used, words);
-    Page { octets, used }
-}
-
-// Puts a number on the page, in decimal.
-#[tactic(auto, using(crate::proofs::Digits::number_put))]
-pub fn number(page: Page, n: u64) -> Page
-    ensures { NumberPut page n result }
-{
-    let mut digits = Buffer::new();
-    put(page, digits.format(n).as_bytes())
+    // All that is on the page; nothing where it is overfull.
+    pub fn written(&self) -> Option<&[u8]>
+        ensures all { IfSome result (λ octets. octets.now ≡ self.now.octets) }
+        ensures overfull { IsNone result ↔ IsTrue self.now.is_overfull }
+    {
+        if self.is_overfull {
+            return None;
+        }
+        Some(&self.octets[..self.used])
+    }
 }

@@ -5,7 +5,8 @@ use contract.Lifetimes.{Lfts}
 use borrow.Fn.Kinds.{Dens, res_t, ended_of}
 use denote.Triple.Clauses.{AtExit}
 use Rattle.ground.proofs.Decides.{Decides}
-use Rattle.recorder.specs.Watching.{Recorder}
+use Rattle.refusals.specs.Refusals.{refused_or}
+use Rattle.recorder.specs.Watching.{Recorder, recorder_of, refusal_with}
 use Rattle.recorder.proofs.arrived.Kinds as arrived_kinds
 use Rattle.recorder.proofs.arrived.Reads as arrived
 use Rattle.recorder.proofs.taken.Kinds as taken_kinds
@@ -23,11 +24,12 @@ pub arrived_decides : (κs : Lfts 1) (args : Dens κs arrived_kinds.ps) (x y : (
 arrived_decides κs args x y e f p q =
     (ap (λ (r : Recorder). r.marks) (p ∙ sym q), ap (λ (r : Recorder). r.rooms) (p ∙ sym q))
 
--- of the number, of the marks and of the numbers at exit
+-- of the answer and of the numbers at exit
 pub taken_decides : (κs : Lfts 1) (args : Dens κs taken_kinds.ps) (x y : (res_t taken_kinds.r κs).Denot)
     (e f : AtExit (ended_of 1 taken_kinds.ps taken_kinds.r) κs) → taken.Post κs args x e → taken.Post κs args y f →
     (x ≡ y) × (e.0.now ≡ f.0.now)
 taken_decides κs args x y e f p q =
-    let number = p.0 ∙ sym q.0 in
-    let whole = p.1 ∙ sym q.1 in
-    (λ i. record { refusal = number i; marks = (whole i).marks }, ap (λ (r : Recorder). r.rooms) whole)
+    let whole = p.1.1 ∙ sym q.1.1 in (
+      p.1.0 ∙ (λ i. refused_or (refusal_with args.1.1.0 (recorder_of args.0.now args.1.0) args.1.1.1.1.0 args.1.1.1.1.1.0) (whole i).marks) ∙ sym q.1.0,
+      ap (λ (r : Recorder). r.rooms) whole,
+    )

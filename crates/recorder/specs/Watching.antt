@@ -1,8 +1,9 @@
 -- Document 01, "Room watching at B", for the whole recorder: the rooms of the priorities, what arrives in them and what is taken.
-use Rattle.std.specs.Prelude.{ℕ, not, List, [], ◌∷◌, get_or, set, ltb, eqb}
+use Rattle.std.specs.Prelude.{ℕ, not, List, [], ◌∷◌, Result, Ok, Err, get_or, set, ltb, eqb}
 use Rattle.ground.specs.Pick.{pick}
 use Rattle.ground.specs.Eight.{eight}
-use Rattle.ground.specs.First.{Refusal, ◌gives◌, first_of}
+use Rattle.ground.specs.First.{Condition, ◌gives◌, first_of}
+use Rattle.refusals.specs.declared.Refusal.{Refusal}
 use Rattle.marks.specs.Marks.{fresh_marks, wanted_at, with_mark}
 use Rattle.marks.specs.declared.Marks.{Marks}
 use Rattle.rooms.specs.Room.{limits_for, arrived_in, taken_from, empty_room, room_in, numbers_of}
@@ -47,7 +48,7 @@ unfoldable pub arrived_at : Watch → Recorder → ℕ → ℕ → ℕ → Recor
 arrived_at w r priority length clock = arrived_with w.settings.enabled (limits_of w priority) r priority length clock
 
 -- 32 "priority above 7", 43 "priority not enabled", 42 "more than is held", in this order; 0: none of them
-abbrev pub taking_order : ℕ → Recorder → ℕ → ℕ → List Refusal
+abbrev pub taking_order : ℕ → Recorder → ℕ → ℕ → List Condition
 taking_order enabled r priority octets =
     ltb 7 priority gives 32 ∷ not (is_enabled enabled priority) gives 43 ∷ ltb (room_at r priority).held octets gives 42 ∷ []
 
@@ -71,3 +72,8 @@ leaves_with enabled limits r priority octets clock =
 
 unfoldable pub taking_leaves : Watch → Recorder → ℕ → ℕ → ℕ → Recorder
 taking_leaves w r priority octets clock = leaves_with w.settings.enabled (limits_of w priority) r priority octets clock
+
+-- the marks that a taking answers, or those before it where it is refused
+abbrev pub marks_or : Result Marks Refusal → Marks → Marks
+marks_or (Ok marks) before = marks
+marks_or (Err refusal) before = before

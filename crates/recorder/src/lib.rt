@@ -3,10 +3,12 @@
 #![tactic(auto)]
 
 ghost use Rattle.std.specs.Prelude.{◌≡◌};
+ghost use Rattle.refusals.specs.Refusals.{number_of, refused_or};
 ghost use Rattle.settings.specs.Settings.{room_of};
-ghost use Rattle.recorder.specs.Watching.{recorder_of, limits_of, arrived_with, refusal_with, leaves_with};
+ghost use Rattle.recorder.specs.Watching.{recorder_of, limits_of, arrived_with, refusal_with, marks_or, leaves_with};
 
 use marks::Marks;
+use refusals::Refusal;
 use room_to_keep::Kept;
 use rooms::Limits;
 use settings::Settings;
@@ -24,9 +26,8 @@ pub struct Watch {
 pub fn limits_of(watch: Watch, priority: u8) -> Limits
     ensures { result ≡ limits_of watch priority }
 {
-    let sizes = watch.settings.rooms;
     rooms::limits_for(
-        size_of(sizes, priority),
+        size_of(watch.settings.rooms, priority),
         watch.kept.headroom.0,
         watch.settings.largest,
         watch.settings.hysteresis,
@@ -37,10 +38,7 @@ pub fn limits_of(watch: Watch, priority: u8) -> Limits
 fn size_of(sizes: [u64; 8], priority: u8) -> u64
     ensures { result ≡ room_of sizes priority }
 {
-    if priority < 8 {
-        return sizes[priority as usize];
-    }
-    0
+    sizes.get(usize::from(priority)).copied().unwrap_or(0)
 }
 
 // A frame of this priority and length arrives at a room with these limits: it is held where it fits, else dropped and counted, and the
@@ -58,9 +56,9 @@ pub fn arrived(
     ensures { recorder_of numbers.new result ≡ arrived_with enabled limits (recorder_of numbers.old marks) priority length clock.0 }
 {
     if settings::is_enabled(enabled, priority) {
-        let n = priority as usize;
-        let wanted = marks.wanted;
-        let room = rooms::arrived(rooms::room_in(numbers[n], wanted[n]), limits, length);
+        let n = usize::from(priority);
+        let before = rooms::room_in(numbers[n], marks.wanted[n]);
+        let room = rooms::arrived(before, limits, length);
         numbers[n] = rooms::numbers_of(room);
         marks::with_mark(marks, priority, room.wanted, clock)
     } else {
@@ -68,14 +66,8 @@ pub fn arrived(
     }
 }
 
-// What a taking answers: document 01's number, or 0, and the marks, unchanged where the number is not 0.
-#[derive(Clone, Copy)]
-pub struct Taking {
-    pub refusal: u8,
-    pub marks: Marks,
-}
-
-// Octets of a priority are taken from a room with these limits: 32, 43 and 42 in this order, else they leave it and the marks are tried.
+// Octets of a priority are taken from a room with these limits: 32, 43 and 42 in this order, else they leave it and the marks are tried. A
+// refusal leaves the numbers as they were.
 pub fn taken(
     numbers: &mut [[u64; 4]; 8],
     marks: Marks,
@@ -84,26 +76,24 @@ pub fn taken(
     priority: u8,
     octets: u64,
     clock: OctetTimes,
-) -> Taking
-    ensures { (result.refusal ≡ refusal_with enabled (recorder_of numbers.old marks) priority octets)
-        × (recorder_of numbers.new result.marks ≡ leaves_with enabled limits (recorder_of numbers.old marks) priority octets clock.0) }
+) -> Result<Marks, Refusal>
+    ensures number { number_of result ≡ refusal_with enabled (recorder_of numbers.old marks) priority octets }
+    ensures answer { result ≡ refused_or (refusal_with enabled (recorder_of numbers.old marks) priority octets) (marks_or result marks) }
+    ensures leaves { recorder_of numbers.new (marks_or result marks)
+        ≡ leaves_with enabled limits (recorder_of numbers.old marks) priority octets clock.0 }
 {
     if 7 < priority {
-        return Taking { refusal: 32, marks };
+        return Err(Refusal::PriorityAbove);
     }
     if !settings::is_enabled(enabled, priority) {
-        return Taking { refusal: 43, marks };
+        return Err(Refusal::NotEnabled);
     }
-    let n = priority as usize;
-    let wanted = marks.wanted;
-    let was = rooms::room_in(numbers[n], wanted[n]);
+    let n = usize::from(priority);
+    let was = rooms::room_in(numbers[n], marks.wanted[n]);
     if was.held < octets {
-        return Taking { refusal: 42, marks };
+        return Err(Refusal::NotHeld);
     }
     let room = rooms::taken(was, limits, octets);
     numbers[n] = rooms::numbers_of(room);
-    Taking {
-        refusal: 0,
-        marks: marks::with_mark(marks, priority, room.wanted, clock),
-    }
+    Ok(marks::with_mark(marks, priority, room.wanted, clock))
 }

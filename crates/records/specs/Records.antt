@@ -1,10 +1,12 @@
 -- Document 01, "The bench": a record is "one octet of kind, then a fixed body, numbers most significant octet first".
-use Rattle.std.specs.Prelude.{ℕ, ◌+◌, Bool, false, List, [], ◌∷◌, length, ltb, eqb}
+use Rattle.std.specs.Prelude.{ℕ, ◌+◌, Bool, false, List, [], ◌∷◌, Result, length, ltb, eqb}
 use Rattle.ground.specs.Pick.{pick}
-use Rattle.ground.specs.First.{Refusal, ◌gives◌, first_of}
+use Rattle.ground.specs.First.{Condition, ◌gives◌, first_of}
 use Rattle.octets.specs.Numbers.{octet_at, word_at}
+use Rattle.refusals.specs.Refusals.{refused_or}
+use Rattle.refusals.specs.declared.Refusal.{Refusal}
 use Rattle.records.specs.declared.Record.{Record}
-use Rattle.records.specs.declared.Record.TheVariants.{Wait, StartData, Arrive, StartOther, StartPfc, TakeEffect, TakeOctets, Refused}
+use Rattle.records.specs.declared.Record.TheVariants.{Wait, StartData, Arrive, StartOther, StartPfc, TakeEffect, TakeOctets}
 
 -- the octets of a kind's body, by document 01's table: 00 has 57, 01 and 04 two, 02 and 07 three, 03, 05 and 06 none
 unfoldable pub body_length : ℕ → ℕ
@@ -31,7 +33,7 @@ unfoldable pub is_repeated : ℕ → ℕ → Bool
 is_repeated kind size = pick (ltb size 1) false (eqb kind 0)
 
 -- "Records 45, 44, 30, 31": after the settings, 44 for settings repeated, 30 for a kind above 07, 31 for a body cut short
-abbrev pub record_order : ℕ → ℕ → ℕ → List Refusal
+abbrev pub record_order : ℕ → ℕ → ℕ → List Condition
 record_order kind size whole = is_repeated kind size gives 44 ∷ ltb 7 kind gives 30 ∷ ltb size whole gives 31 ∷ []
 
 unfoldable pub sized_refusal : ℕ → ℕ → ℕ → ℕ
@@ -41,17 +43,10 @@ sized_refusal kind size whole = first_of (record_order kind size whole)
 abbrev pub octets_refusal : List ℕ → ℕ
 octets_refusal octets = sized_refusal (octet_at octets 0) (length octets) (record_length (octet_at octets 0))
 
--- what the octets of a record ask, or their refusal
-unfoldable pub decoded : List ℕ → Record
-decoded octets = pick (eqb (octets_refusal octets) 0) (body_of (octet_at octets 0) octets) (Refused (octets_refusal octets))
+-- what octets ask: a record, or they are refused
+abbrev pub Asked : Type 0
+Asked = Result Record Refusal
 
--- document 01's number of what a record's octets ask: the refusal's, or 0 where they ask something
-unfoldable pub record_number_of : Record → ℕ
-record_number_of (Wait n) = 0
-record_number_of (StartData priority length) = 0
-record_number_of Arrive = 0
-record_number_of (StartOther length) = 0
-record_number_of StartPfc = 0
-record_number_of TakeEffect = 0
-record_number_of (TakeOctets priority octets) = 0
-record_number_of (Refused number) = number
+-- what the octets of a record ask, or their refusal
+unfoldable pub decoded : List ℕ → Asked
+decoded octets = refused_or (octets_refusal octets) (body_of (octet_at octets 0) octets)

@@ -2,9 +2,13 @@
 #![tactic(auto)]
 
 ghost use Rattle.std.specs.Prelude.{◌≡◌, ◌<◌, ◌≤◌, ◌+◌, length};
-ghost use Rattle.records.specs.Records.{body_length, body_of, is_repeated, sized_refusal, octets_refusal, decoded, record_number_of};
+ghost use Rattle.ground.specs.First.{first_of};
+ghost use Rattle.refusals.specs.Refusals.{number_of, refused_or};
+ghost use Rattle.records.specs.Records.{body_length, body_of, is_repeated, record_order, octets_refusal, decoded};
 
-// What a record asks, with its numbers, or the refusal of its octets.
+use refusals::Refusal;
+
+// What a record asks, with its numbers.
 #[derive(Clone, Copy)]
 pub enum Record {
     // n octet times pass
@@ -21,7 +25,6 @@ pub enum Record {
     TakeEffect,
     // B's disk takes octets: priority, octets
     TakeOctets(u8, u16),
-    Refused(u8),
 }
 
 // The octets of a kind's body.
@@ -29,47 +32,27 @@ pub enum Record {
 pub fn body_length(kind: u8) -> usize
     ensures { (result ≡ body_length kind) × (result ≤ 57) }
 {
-    if kind == 0 {
-        return 57;
+    match kind {
+        0 => 57,
+        1 | 4 => 2,
+        2 | 7 => 3,
+        _ => 0,
     }
-    if kind == 1 {
-        return 2;
-    }
-    if kind == 2 {
-        return 3;
-    }
-    if kind == 4 {
-        return 2;
-    }
-    if kind == 7 {
-        return 3;
-    }
-    0
 }
 
 #[tactic(auto, unfolding(ground::specs::Pick::pick, crate::specs::Records::body_of))]
 fn body(kind: u8, octets: &[u8]) -> Record
     ensures { result ≡ body_of kind octets.now }
 {
-    if kind == 1 {
-        return Record::Wait(octets::word_at(octets, 1));
+    match kind {
+        1 => Record::Wait(octets::word_at(octets, 1)),
+        2 => Record::StartData(octets::octet_at(octets, 1), octets::word_at(octets, 2)),
+        3 => Record::Arrive,
+        4 => Record::StartOther(octets::word_at(octets, 1)),
+        5 => Record::StartPfc,
+        6 => Record::TakeEffect,
+        _ => Record::TakeOctets(octets::octet_at(octets, 1), octets::word_at(octets, 2)),
     }
-    if kind == 2 {
-        return Record::StartData(octets::octet_at(octets, 1), octets::word_at(octets, 2));
-    }
-    if kind == 3 {
-        return Record::Arrive;
-    }
-    if kind == 4 {
-        return Record::StartOther(octets::word_at(octets, 1));
-    }
-    if kind == 5 {
-        return Record::StartPfc;
-    }
-    if kind == 6 {
-        return Record::TakeEffect;
-    }
-    Record::TakeOctets(octets::octet_at(octets, 1), octets::word_at(octets, 2))
 }
 
 // Settings repeated; no octets at all are none.
@@ -77,39 +60,32 @@ fn body(kind: u8, octets: &[u8]) -> Record
 fn is_repeated(kind: u8, size: usize) -> bool
     ensures { result ≡ is_repeated kind size }
 {
-    if size < 1 {
-        return false;
-    }
-    kind == 0
+    size > 0 && kind == 0
 }
 
-// 44, 30 and 31 of a record of this kind with this many octets, of which its kind has a whole count, in their order; 0 where none of
-// them holds.
-#[tactic(auto, unfolding(crate::specs::Records::sized_refusal, ground::specs::First::first_of, ground::specs::Pick::pick))]
-fn refusal(kind: u8, size: usize, whole: usize) -> u8
-    ensures { result ≡ sized_refusal kind size whole }
+// 44, 30 and 31 of a record of this kind with this many octets, of which its kind has a whole count, in their order.
+#[tactic(auto, unfolding(crate::proofs::Decoding::refused_or, crate::proofs::Decoding::numbered_in, ground::specs::Pick::pick, ground::specs::First::first_of))]
+fn is_whole(kind: u8, size: usize, whole: usize) -> Result<(), Refusal>
+    ensures { result ≡ refused_or (first_of (record_order kind size whole)) tt }
 {
     if is_repeated(kind, size) {
-        return 44;
+        return Err(Refusal::Settings);
     }
     if 7 < kind {
-        return 30;
+        return Err(Refusal::Kind);
     }
     if size < whole {
-        return 31;
+        return Err(Refusal::BodyShort);
     }
-    0
+    Ok(())
 }
 
 // What the octets of a record after the settings ask; octets past the record are not looked at.
-#[tactic(auto, using(crate::proofs::Decoding::both, crate::proofs::Decoding::refused_is, crate::proofs::Decoding::asked_is))]
-pub fn decode(octets: &[u8]) -> Record
-    ensures { (record_number_of result ≡ octets_refusal octets.now) × (result ≡ decoded octets.now) }
+pub fn decode(octets: &[u8]) -> Result<Record, Refusal>
+    ensures number { number_of result ≡ octets_refusal octets.now }
+    ensures answer { result ≡ decoded octets.now }
 {
     let kind = octets::octet_at(octets, 0);
-    let number = refusal(kind, octets.len(), 1 + body_length(kind));
-    if number != 0 {
-        return Record::Refused(number);
-    }
-    body(kind, octets)
+    is_whole(kind, octets.len(), 1 + body_length(kind))?;
+    Ok(body(kind, octets))
 }

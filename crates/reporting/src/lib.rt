@@ -7,21 +7,14 @@ ghost use Rattle.reporting.specs.Reporting.{standing};
 
 use bench_meaning::Report;
 use bench_state::Bench;
+use refusals::Refusal;
 
 // One of the four numbers of each room: 0 held, 1 dropped, 3 worst.
 fn column(numbers: [[u64; 4]; 8], k: usize) -> [u64; 8]
     requires { k < 4 }
     ensures { result ≡ eight (λ n. get_or (get_or numbers n []) k 0) }
 {
-    let a = numbers[0];
-    let b = numbers[1];
-    let c = numbers[2];
-    let d = numbers[3];
-    let e = numbers[4];
-    let f = numbers[5];
-    let g = numbers[6];
-    let h = numbers[7];
-    [a[k], b[k], c[k], d[k], e[k], f[k], g[k], h[k]]
+    std::array::from_fn(|n| numbers[n][k])
 }
 
 // The report of a run that stands here.
@@ -30,20 +23,18 @@ pub fn report_of(
     bench: Bench,
     numbers: [[u64; 4]; 8],
     steps: u64,
-    refusal: u8,
+    refusal: Option<Refusal>,
     at: u64,
 ) -> Report
     ensures { result ≡ standing enabled bench numbers steps refusal at }
 {
-    let time = bench.clock;
-    let head = bench.head;
-    let timers = head.timers;
-    let held = column(numbers, 0);
+    let held = column(numbers, 0); // an array goes into a literal by a name: the borrow checker covers no other way
     let dropped = column(numbers, 1);
     let worst = column(numbers, 3);
+    let timers = bench.head.timers;
     Report {
         steps,
-        time,
+        time: bench.clock,
         refusal,
         at,
         enabled,

@@ -1,12 +1,13 @@
 -- Document 01, "Headroom": what is kept in octet times, and what `keep` answers for every input, refused ones too.
-use Rattle.std.specs.Prelude.{ℕ, ◌+◌, Bool, true, List, [], ◌∷◌, eqb}
+use Rattle.std.specs.Prelude.{ℕ, ◌+◌, Bool, true, List, [], ◌∷◌, Result}
 use Rattle.ground.specs.Pick.{pick}
-use Rattle.ground.specs.First.{Refusal, ◌gives◌, first_of}
+use Rattle.ground.specs.First.{Condition, ◌gives◌, first_of}
+use Rattle.refusals.specs.Refusals.{refused_or}
+use Rattle.refusals.specs.declared.Refusal.{Refusal}
 use Rattle.units.specs.Counts.{octets}
 use Rattle.units.specs.Units.{octets_of_bits, wire_time, pfc_time}
 use Rattle.limits.specs.Limits.{largest_m, largest_delay, largest_path, refused13, delay_over, path_over}
 use Rattle.room_to_keep.specs.declared.Kept.{Kept}
-use Rattle.room_to_keep.specs.declared.Keeping.{Keeping}
 
 -- "In octet times, generation G, request path P and data path D are each rounded up. One-way time: G + W + 84 + P."
 abbrev pub one_way : ℕ → ℕ → ℕ → ℕ
@@ -25,7 +26,7 @@ abbrev pub refused14 : ℕ → ℕ → ℕ → Bool
 refused14 generation request «data» = pick (delay_over generation) true (pick (path_over request) true (path_over «data»))
 
 -- 13 and 14, in this order
-abbrev pub keep_order : ℕ → ℕ → ℕ → ℕ → List Refusal
+abbrev pub keep_order : ℕ → ℕ → ℕ → ℕ → List Condition
 keep_order largest generation request «data» =
     refused13 largest gives 13
     ∷ refused14 generation request «data» gives 14
@@ -47,16 +48,7 @@ kept largest generation request «data» =
       headroom = octets (headroom largest generation request «data»);
     }
 
--- an answer by its number: at 0 what is kept, at any other the refusal
-abbrev pub keeping_of : ℕ → Kept → Keeping
-keeping_of number room = pick (eqb number 0) (Keeping.Room room) (Keeping.Refused number)
-
 -- what is to be kept, or the first refusal that holds
-unfoldable pub keeping : ℕ → ℕ → ℕ → ℕ → Keeping
+unfoldable pub keeping : ℕ → ℕ → ℕ → ℕ → Result Kept Refusal
 keeping largest generation request «data» =
-    keeping_of (keep_refusal largest generation request «data») (kept largest generation request «data»)
-
--- document 01's number of an answer: the refusal's, or 0
-unfoldable pub keep_number_of : Keeping → ℕ
-keep_number_of (Keeping.Room room) = 0
-keep_number_of (Keeping.Refused number) = number
+    refused_or (keep_refusal largest generation request «data») (kept largest generation request «data»)

@@ -4,11 +4,13 @@
 
 ghost use Rattle.std.specs.Prelude.{◌≡◌, [], ◌∷◌, ◌+◌, ◌≤◌};
 ghost use Rattle.ground.specs.First.{◌gives◌, first_of};
+ghost use Rattle.refusals.specs.Refusals.{refused_or, number_of};
 ghost use Rattle.units.specs.Units.{octets_of_bits, wire_time};
-ghost use Rattle.limits.specs.Limits.{largest_m, largest_delay, largest_path, refused13};
-ghost use Rattle.room_to_keep.specs.Keep.{one_way, most_one_way, refused14, keep_order, kept, keeping, keep_number_of};
+ghost use Rattle.limits.specs.Limits.{largest_m, largest_delay, largest_path};
+ghost use Rattle.room_to_keep.specs.Keep.{one_way, most_one_way, refused14, keep_order, kept, keeping};
 
-use limits::{LARGEST_DELAY, LARGEST_M, LARGEST_PATH, LEAST_M};
+use limits::{LARGEST_DELAY, LARGEST_PATH};
+use refusals::Refusal;
 use units::{BitTimes, OctetTimes};
 
 // What is kept in octet times: G, W, P, D, the one-way time and the headroom.
@@ -20,12 +22,6 @@ pub struct Kept {
     pub data: OctetTimes,
     pub one_way: OctetTimes,
     pub headroom: OctetTimes,
-}
-
-#[derive(Clone, Copy)]
-pub enum Keeping {
-    Room(Kept),
-    Refused(u8),
 }
 
 // The one-way time: G + W + 84 + P, G and P rounded up.
@@ -49,7 +45,6 @@ fn headroom_time(largest: u64, one_way: OctetTimes, data: BitTimes) -> OctetTime
     units::later(units::later(one_way, w), d)
 }
 
-#[tactic(auto, using(crate::proofs::Room::room_made), unfolding(ground::specs::Pick::pick))]
 fn room_of(largest: u64, generation: BitTimes, request: BitTimes, data: BitTimes) -> Kept
     requires { (largest ≤ largest_m) × (generation.0 ≤ largest_delay) × (request.0 ≤ largest_path) × («data».0 ≤ largest_path) }
     ensures { result ≡ kept largest generation.0 request.0 «data».0 }
@@ -65,56 +60,42 @@ fn room_of(largest: u64, generation: BitTimes, request: BitTimes, data: BitTimes
     }
 }
 
-// 13: M is outside its range.
-#[tactic(auto, using(ground::proofs::Tests::tests), unfolding(ground::specs::Pick::pick))]
-fn outside_m(largest: u64) -> bool
-    ensures { result ≡ refused13 largest }
-{
-    if largest < LEAST_M {
-        return true;
-    }
-    LARGEST_M < largest
-}
-
 // 14 by the generation or by a path.
-#[tactic(auto, using(ground::proofs::Tests::tests), unfolding(ground::specs::Pick::pick))]
+#[tactic(auto, unfolding(ground::specs::Pick::pick))]
 fn over(generation: BitTimes, request: BitTimes, data: BitTimes) -> bool
     ensures { result ≡ refused14 generation.0 request.0 «data».0 }
 {
-    if LARGEST_DELAY.0 < generation.0 {
-        return true;
-    }
-    if LARGEST_PATH.0 < request.0 {
-        return true;
-    }
-    LARGEST_PATH.0 < data.0
+    LARGEST_DELAY.0 < generation.0 || LARGEST_PATH.0 < request.0 || LARGEST_PATH.0 < data.0
 }
 
-// 13, then 14; 0 where neither holds.
-#[tactic(auto, using(ground::proofs::Tests::tests), unfolding(ground::specs::Pick::pick, ground::specs::First::first_of))]
-fn first_of(is_outside: bool, is_over: bool) -> u8
-    ensures { result ≡ first_of (is_outside gives 13 ∷ is_over gives 14 ∷ []) }
+// 13, then 14.
+#[tactic(auto, using(refusals::proofs::Refused::tried), unfolding(refusals::specs::Refusals::numbered_in, ground::specs::Pick::pick))]
+fn first_of(is_outside: bool, is_over: bool) -> Result<(), Refusal>
+    ensures { result ≡ refused_or (first_of (is_outside gives 13 ∷ is_over gives 14 ∷ [])) tt }
 {
     if is_outside {
-        return 13;
+        return Err(Refusal::LargestFrame);
     }
     if is_over {
-        return 14;
+        return Err(Refusal::Delay);
     }
-    0
+    Ok(())
 }
 
 // What is kept for a largest frame M, a generation delay and the bits of the two paths. Refusals 13 and 14: the first that holds.
-#[tactic(auto, using(crate::proofs::Room::answers), unfolding(ground::specs::Pick::pick))]
-pub fn keep(largest: u64, generation: BitTimes, request: BitTimes, data: BitTimes) -> Keeping
-    ensures { (keep_number_of result ≡ first_of (keep_order largest generation.0 request.0 «data».0))
-        × (result ≡ keeping largest generation.0 request.0 «data».0) }
+#[tactic(auto, using(crate::proofs::Exactly::told), unfolding(refusals::specs::Refusals::refused_or, ground::specs::Pick::pick, crate::specs::Keep::keeping))]
+pub fn keep(
+    largest: u64,
+    generation: BitTimes,
+    request: BitTimes,
+    data: BitTimes,
+) -> Result<Kept, Refusal>
+    ensures number { number_of result ≡ first_of (keep_order largest generation.0 request.0 «data».0) }
+    ensures answer { result ≡ keeping largest generation.0 request.0 «data».0 }
 {
-    let is_outside = outside_m(largest);
-    let is_over = over(generation, request, data);
-    let number = first_of(is_outside, is_over);
-    if number != 0 {
-        return Keeping::Refused(number);
-    }
-    Keeping::Room(room_of(largest, generation, request, data))
+    first_of(
+        limits::is_outside_m(largest),
+        over(generation, request, data),
+    )?;
+    Ok(room_of(largest, generation, request, data))
 }

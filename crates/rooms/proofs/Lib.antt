@@ -1,5 +1,4 @@
 -- Laws of one room.
 pub mod Decided
-pub mod Made
 pub mod Moves
 pub mod RoomLaws

@@ -34,10 +34,6 @@ span_after wanted span length = pick wanted (within64 (span + length)) 0
 unfoldable pub span_kept : Bool → ℕ → ℕ
 span_kept wanted span = pick wanted span 0
 
--- the larger of two counts
-abbrev pub larger_of : ℕ → ℕ → ℕ
-larger_of = max
-
 -- the room after a frame of this length arrived
 unfoldable pub arrived_in : Limits → Room → ℕ → Room
 arrived_in limits room length =

@@ -3,7 +3,7 @@
 
 ghost use Rattle.std.specs.Prelude.{◌≡◌, ◌+◌, ◌-◌};
 ghost use Rattle.rooms.specs.Room.{arrived_in, taken_from, room_in, numbers_of, limits_for};
-ghost use Rattle.rooms.specs.Room.{free_of, fits, held_after, dropped_after, span_after, span_kept, wanted_after, larger_of};
+ghost use Rattle.rooms.specs.Room.{free_of, held_after, dropped_after, span_after, span_kept, wanted_after};
 ghost use Rattle.units.specs.Units.{within64};
 
 // What is held, what was dropped, whether pause is wanted, the octets that arrived in the present wanted span (the crossing frame
@@ -29,11 +29,11 @@ pub struct Limits {
 pub fn limits_for(size: u64, headroom: u64, largest: u64, hysteresis: u64) -> Limits
     ensures { result ≡ limits_for size headroom largest hysteresis }
 {
-    let mark = more(headroom, largest);
+    let mark = headroom.saturating_add(largest);
     Limits {
         size,
         mark,
-        resume: more(mark, hysteresis),
+        resume: mark.saturating_add(hysteresis),
     }
 }
 
@@ -57,56 +57,22 @@ pub fn numbers_of(room: Room) -> [u64; 4]
     [room.held, room.dropped, room.span, room.worst]
 }
 
-// What is left of a count of octets once some are gone, and none where more are.
-fn left(count: u64, gone: u64) -> u64
-    ensures { result ≡ count - gone }
-{
-    if gone <= count { count - gone } else { 0 }
-}
-
-// A count with octets added; past the largest that it holds, the largest.
-fn more(count: u64, octets: u64) -> u64
-    ensures { result ≡ within64 (count + octets) }
-{
-    if count <= u64::MAX - octets {
-        count + octets
-    } else {
-        u64::MAX
-    }
-}
-
-// What is free of a room.
+// What is free of a room, and none where more is held than it has.
 fn free(size: u64, held: u64) -> u64
     ensures { result ≡ free_of size held }
 {
-    left(size, held)
+    size.saturating_sub(held)
 }
 
-fn fits(size: u64, held: u64, length: u64) -> bool
-    ensures { result ≡ fits size held length }
+// What is held and what was dropped after a frame of this length: held where it fits, else dropped and its octets counted.
+#[tactic(auto, unfolding(ground::specs::Pick::pick, crate::specs::Room::held_after, crate::specs::Room::dropped_after))]
+fn placed(size: u64, held: u64, dropped: u64, length: u64) -> (u64, u64)
+    ensures { (result.0 ≡ held_after size held length) × (result.1 ≡ dropped_after size held dropped length) }
 {
-    length <= free(size, held)
-}
-
-#[tactic(auto, unfolding(crate::specs::Room::held_after, ground::specs::Pick::pick))]
-fn held_after(size: u64, held: u64, length: u64) -> u64
-    ensures { result ≡ held_after size held length }
-{
-    if fits(size, held, length) {
-        held + length
+    if length <= free(size, held) {
+        (held + length, dropped)
     } else {
-        held
-    }
-}
-
-#[tactic(auto, unfolding(crate::specs::Room::dropped_after, ground::specs::Pick::pick))]
-fn dropped_after(size: u64, held: u64, dropped: u64, length: u64) -> u64
-    ensures { result ≡ dropped_after size held dropped length }
-{
-    if fits(size, held, length) {
-        dropped
-    } else {
-        more(dropped, length)
+        (held, dropped.saturating_add(length))
     }
 }
 
@@ -114,64 +80,55 @@ fn dropped_after(size: u64, held: u64, dropped: u64, length: u64) -> u64
 fn span_after(wanted: bool, span: u64, length: u64) -> u64
     ensures { result ≡ span_after wanted span length }
 {
-    if wanted { more(span, length) } else { 0 }
+    if wanted {
+        span.saturating_add(length)
+    } else {
+        0
+    }
 }
 
-#[tactic(auto, using(ground::proofs::Tests::tests), unfolding(ground::specs::Pick::pick, crate::specs::Room::span_kept))]
+#[tactic(auto, unfolding(ground::specs::Pick::pick, crate::specs::Room::span_kept))]
 fn span_kept(wanted: bool, span: u64) -> u64
     ensures { result ≡ span_kept wanted span }
 {
     if wanted { span } else { 0 }
 }
 
-fn larger(a: u64, b: u64) -> u64
-    ensures { result ≡ larger_of a b }
-{
-    if a < b { b } else { a }
-}
-
 // Whether pause is wanted once this much is free: below the mark yes, from the resume mark on no, between the two as before.
-#[tactic(auto, using(ground::proofs::Tests::tests), unfolding(ground::specs::Pick::pick, crate::specs::Room::wanted_after))]
+#[tactic(auto, unfolding(ground::specs::Pick::pick, crate::specs::Room::wanted_after))]
 fn wanted_after(limits: Limits, free: u64, before: bool) -> bool
     ensures { result ≡ wanted_after limits free before }
 {
-    if free < limits.mark {
-        return true;
-    }
-    if limits.resume <= free {
-        return false;
-    }
-    before
+    free < limits.mark || before && free < limits.resume
 }
 
 // The room after a frame of this length arrived: held where it fits, else dropped and its octets counted; then the marks are tried.
-#[tactic(auto, unfolding(ground::specs::Pick::pick, crate::specs::Room::arrived_in))]
+#[tactic(auto, unfolding(crate::specs::Room::arrived_in))]
 pub fn arrived(room: Room, limits: Limits, length: u64) -> Room
     ensures { result ≡ arrived_in limits room length }
 {
-    let held = held_after(limits.size, room.held, length);
+    let (held, dropped) = placed(limits.size, room.held, room.dropped, length);
     let span = span_after(room.wanted, room.span, length);
     Room {
         held,
-        dropped: dropped_after(limits.size, room.held, room.dropped, length),
+        dropped,
         wanted: wanted_after(limits, free(limits.size, held), room.wanted),
         span,
-        worst: larger(room.worst, span),
+        worst: room.worst.max(span),
     }
 }
 
 // The room after octets were taken, at most those that are held; then the marks are tried.
-#[tactic(auto, using(crate::proofs::Made::taken_made), unfolding(ground::specs::Pick::pick))]
+#[tactic(auto, unfolding(crate::specs::Room::taken_from))]
 pub fn taken(room: Room, limits: Limits, octets: u64) -> Room
     ensures { result ≡ taken_from limits room octets }
 {
-    let held = left(room.held, octets);
+    let held = room.held.saturating_sub(octets);
     let still = wanted_after(limits, free(limits.size, held), room.wanted);
     Room {
         held,
-        dropped: room.dropped,
         wanted: still,
         span: span_kept(still, room.span),
-        worst: room.worst,
+        ..room
     }
 }

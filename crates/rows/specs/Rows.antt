@@ -1,9 +1,7 @@
 -- How lent arrays hold the frames under way in a direction, oldest first, over slots of any width.
-use Rattle.std.specs.Prelude.{ℕ, zero, suc, ◌+◌, ◌-◌, min, List, [], ◌∷◌, ◌++◌, map, length, take, drop, get_or, eqb, leb}
+use Rattle.std.specs.Prelude.{ℕ, zero, suc, ◌+◌, ◌-◌, min, List, [], ◌∷◌, ◌++◌, map, length, take, drop, get_or, eqb, leb, None}
 use Rattle.ground.specs.Pick.{pick}
-use Rattle.moments.specs.Moments.{at}
-use Rattle.moments.specs.declared.Moment.{Moment}
-use Rattle.moments.specs.declared.Moment.TheVariants.{Never}
+use Rattle.moments.specs.Moments.{Moment, at}
 use Rattle.bench_meaning.specs.State.{Frame, Direction}
 
 -- the frames that the first count places hold, each with the octets of its slot
@@ -14,7 +12,7 @@ held_in width (suc count) (end ∷ ends) slots = record { end = end; octets = ta
 
 -- when the wire time of the oldest of them ends
 unfoldable pub oldest_in : ℕ → List ℕ → Moment
-oldest_in count ends = pick (eqb count 0) Never (pick (eqb (length ends) 0) Never (at (get_or ends 0 0)))
+oldest_in count ends = pick (eqb count 0) None (pick (eqb (length ends) 0) None (at (get_or ends 0 0)))
 
 -- octets written at a place of a list, if they fit there
 unfoldable pub written : ℕ → List ℕ → List ℕ → List ℕ
@@ -22,11 +20,11 @@ written place octets list =
     pick (leb (place + length octets) (length list)) (take place list ++ (octets ++ drop (place + length octets) list)) list
 
 -- n of a list's places from the k-th on moved k places towards the front
-abbrev pub moved_up : ℕ → ℕ → List ℕ → List ℕ
+abbrev pub moved_up : {A : Type 0} → ℕ → ℕ → List A → List A
 moved_up k n list = take n (drop k list) ++ drop n list
 
 -- as many of them as said, and no more than there are
-unfoldable pub shifted : ℕ → ℕ → List ℕ → List ℕ
+unfoldable pub shifted : {A : Type 0} → ℕ → ℕ → List A → List A
 shifted k count list = moved_up k (min count (length list - k)) list
 
 -- a list's first places written over, the others as they were

@@ -22,55 +22,42 @@ pub fn oldest(ends: &[u64], count: u64) -> Moment
     ensures { result ≡ oldest_in count ends.now }
 {
     if count == 0 {
-        return Moment::Never;
+        None
+    } else {
+        ends.first().map(|end| OctetTimes(*end))
     }
-    if ends.len() == 0 {
-        return Moment::Never;
-    }
-    Moment::At(OctetTimes(ends[0]))
 }
 
 // How many places so many slots of a width take, and no more than `most`: the product need not fit a word.
 fn places(width: usize, count: u64, most: usize) -> usize
     ensures { result ≡ min (width * count) most }
 {
-    if width == 0 {
-        return 0;
-    }
-    let count = count as usize;
-    if most / width < count {
-        return most;
-    }
-    width * count
+    width.saturating_mul(count as usize).min(most)
 }
 
 // Writes the end of the frame behind `count` others.
 fn write_end(ends: &mut [u64], count: u64, end: u64)
     ensures { ends.new ≡ set ends.old count end }
 {
+    // Not by `get_mut`: what a slice holds after it is not known to a proof.
     let place = count as usize;
-    if ends.len() <= place {
-        return;
+    if place < ends.len() {
+        ends[place] = end;
     }
-    ends[place] = end;
 }
 
 // Writes octets at a place, if they fit there.
-#[tactic(auto, using(crate::proofs::Writing::written_out), unfolding(ground::specs::Pick::pick))]
+#[tactic(auto, using(crate::proofs::Writing::written_out, crate::proofs::Writing::written_part))]
 fn write_at(slots: &mut [u8], place: usize, octets: &[u8])
     ensures { slots.new ≡ written place octets.now slots.old }
 {
-    if slots.len() < place {
-        return;
+    if place <= slots.len() && octets.len() <= slots.len() - place {
+        slots[place..place + octets.len()].copy_from_slice(octets);
     }
-    if slots.len() - place < octets.len() {
-        return;
-    }
-    slots[place..place + octets.len()].copy_from_slice(octets);
 }
 
 // Puts a frame behind `count` others: its end at that place of the ends, its octets, as many as a slot has, in that slot.
-#[tactic(auto, using(crate::proofs::Writing::written_within), unfolding(ground::specs::Pick::pick))]
+#[tactic(auto, using(crate::proofs::Writing::written_within))]
 pub fn push(ends: &mut [u64], slots: &mut [u8], count: u64, end: OctetTimes, octets: &[u8])
     ensures { (ends.new ≡ set ends.old count end.0)
         × (slots.new ≡ written (length octets.now * count) octets.now slots.old) }
@@ -84,33 +71,17 @@ pub fn push(ends: &mut [u64], slots: &mut [u8], count: u64, end: OctetTimes, oct
 fn movable(size: usize, width: usize, left: u64) -> usize
     ensures { result ≡ min (width * left) (size - width) }
 {
-    if size <= width {
-        return 0;
-    }
-    places(width, left, size - width)
+    places(width, left, size.saturating_sub(width))
 }
 
-// Moves `left` ends up by one place.
-fn shift_ends(ends: &mut [u64], left: u64)
-    ensures { ends.new ≡ shifted 1 left ends.old }
+// Moves `left` slots of a width up by one slot.
+#[tactic(auto, using(crate::proofs::Shifting::shift_copied, crate::proofs::Shifting::shift_none))]
+fn shift<T: Copy>(list: &mut [T], width: usize, left: u64)
+    ensures { list.new ≡ shifted width (width * left) list.old }
 {
-    let count = movable(ends.len(), 1, left);
-    let mut i: usize = 0;
-    while i < count {
-        ends[i] = ends[i + 1];
-        i += 1;
-    }
-}
-
-// Moves the octets of `left` slots up by one slot.
-fn shift_slots(slots: &mut [u8], width: usize, left: u64)
-    ensures { slots.new ≡ shifted width (width * left) slots.old }
-{
-    let count = movable(slots.len(), width, left);
-    let mut i: usize = 0;
-    while i < count {
-        slots[i] = slots[i + width];
-        i += 1;
+    let count = movable(list.len(), width, left);
+    if 0 < count {
+        list.copy_within(width..width + count, 0);
     }
 }
 
@@ -119,6 +90,6 @@ pub fn leave(ends: &mut [u64], slots: &mut [u8], width: usize, left: u64)
     ensures { (ends.new ≡ shifted 1 left ends.old)
         × (slots.new ≡ shifted width (width * left) slots.old) }
 {
-    shift_ends(ends, left);
-    shift_slots(slots, width, left);
+    shift(ends, 1, left);
+    shift(slots, width, left);
 }

@@ -4,24 +4,25 @@ use Prim.Native.Nat.{ℕ, ◌<◌}
 use mathlib.Core.Path.{◌≡◌, refl, sym, ap, ◌∙◌}
 use mathlib.Core.Bool.{Bool, true, false, false≢true, ◌&&◌}
 use native.Mathlib.Omega.{arith}
-use lib.Dec.{ltb, eqb}
-use borrow.Author.Tests.{ltb-true, ltb-false, le-ltb, eqb-true}
+use lib.Dec.{ltb}
+use borrow.Author.Tests.{ltb-true, ltb-false, le-ltb}
+use Rattle.std.specs.Prelude.{Result}
 use Rattle.ground.specs.Pick.{pick}
 use Rattle.ground.specs.First.{first_of, test_at, GivenExactly, is_among, are_apart}
 use Rattle.ground.specs.Eight.{is_set}
 use Rattle.ground.proofs.Pick.{pick_no}
 use Rattle.ground.proofs.First.{first_given, given_exactly}
+use Rattle.ground.proofs.Passing.{neither}
 use Rattle.ground.proofs.Eight.{some_here, some_none}
+use Rattle.refusals.specs.Refusals.{number_of}
+use Rattle.refusals.specs.declared.Refusal.{Refusal}
+use Rattle.refusals.proofs.Refused.{order_number}
 use Rattle.limits.specs.Limits.{least_m, delay_over, path_over}
-use Rattle.room_to_keep.specs.Keep.{kept}
 use Rattle.room_to_keep.specs.declared.Kept.{Kept}
-use Rattle.room_to_keep.proofs.Room.{neither}
 use Rattle.settings.specs.Settings.{is_enabled, room_of, some_enabled, least_room, least_refresh, largest_room}
-use Rattle.settings.specs.Settings.{settings_order, settings_refusal, settling, settling_number_of}
+use Rattle.settings.specs.Settings.{settings_order, settings_refusal, settling}
 use Rattle.settings.specs.Accepted.{Acceptable}
 use Rattle.settings.specs.declared.Settings.{Settings}
-use Rattle.settings.specs.declared.Settling.{Settling}
-use Rattle.settings.specs.declared.Settling.TheVariants.{Accepted, Refused}
 
 -- an enabled priority is one of the eight
 pub enabled_below : (enabled priority : ℕ) → is_enabled enabled priority ≡ true → priority < 8
@@ -32,28 +33,19 @@ enabled_below enabled priority = go (ltb priority 8) refl
     go true below holds = ltb-true priority 8 below
     go false above holds = absurd (false≢true holds)
 
--- an answer made of a number has that number
-number_made : (number : ℕ) (room : Kept) → settling_number_of (pick (eqb number 0) (Accepted room) (Refused number)) ≡ number
-unfolding pick settling_number_of
-number_made number room = go (eqb number 0) refl
-  where
-    go : (b : Bool) → eqb number 0 ≡ b → settling_number_of (pick b (Accepted room) (Refused number)) ≡ number
-    go true is_zero = sym (eqb-true number 0 is_zero)
-    go false not_zero = refl
-
 module _ (s : Settings) where
-  pub settling_number : settling_number_of (settling s) ≡ settings_refusal s
+  pub settling_number : number_of (settling s) ≡ settings_refusal s
   unfolding settling
-  settling_number = number_made _ (kept s.largest s.generation.0 s.request_path.0 s.data_path.0)
+  settling_number = order_number (settings_order s) _ _ refl refl
 
   -- "Each is given exactly when its condition holds and none earlier in the order does"
-  pub settling_given : GivenExactly (settings_order s) (settling_number_of (settling s))
+  pub settling_given : GivenExactly (settings_order s) (number_of (settling s))
   unfolding are_apart is_among pick
   settling_given = given_exactly (settings_order s) refl settling_number
 
-  -- the definition's answer has the order's number: what `settle` promises
-  pub promised : {answer : Settling} → answer ≡ settling s → (settling_number_of answer ≡ settings_refusal s) × (answer ≡ settling s)
-  promised is = (ap settling_number_of is ∙ settling_number, is)
+  -- an answer that is the definition's has the order's number: for `settle`
+  pub told : (answer : Result Kept Refusal) → answer ≡ settling s → number_of answer ≡ first_of (settings_order s)
+  told answer is = ap number_of is ∙ settling_number
 
 -- a test that holds of no enabled priority, and its other side
 module _ (enabled : ℕ) (test : ℕ → Bool) where

@@ -1,14 +1,15 @@
 -- Document 01's settings of the recorder: what is refused, in its order, and what accepted settings carry.
-use Rattle.std.specs.Prelude.{ℕ, ◌+◌, Bool, true, false, ◌&&◌, List, [], ◌∷◌, get_or, ltb, eqb}
+use Rattle.std.specs.Prelude.{ℕ, ◌+◌, Bool, true, false, ◌&&◌, List, [], ◌∷◌, get_or, ltb, Result}
 use Rattle.ground.specs.Pick.{pick}
-use Rattle.ground.specs.First.{Refusal, ◌gives◌, first_of}
+use Rattle.ground.specs.First.{Condition, ◌gives◌, first_of}
 use Rattle.ground.specs.Eight.{eight, is_set, some}
+use Rattle.refusals.specs.Refusals.{refused_or}
+use Rattle.refusals.specs.declared.Refusal.{Refusal}
 use Rattle.units.specs.Units.{quantum, octets_of_quanta}
 use Rattle.limits.specs.Limits.{refused13}
 use Rattle.room_to_keep.specs.Keep.{one_way, headroom, refused14, kept}
+use Rattle.room_to_keep.specs.declared.Kept.{Kept}
 use Rattle.settings.specs.declared.Settings.{Settings}
-use Rattle.settings.specs.declared.Settling.{Settling}
-use Rattle.settings.specs.declared.Settling.TheVariants.{Accepted, Refused}
 
 -- bit 0 of the enabled octet is priority 0; a number above 7 is no priority
 unfoldable pub is_enabled : ℕ → ℕ → Bool
@@ -70,7 +71,7 @@ abbrev pub refused15 : Settings → Bool
 refused15 s = some_room_below s.enabled s.rooms (least_room s)
 
 -- "Settings 13, 14, 17, 18, 16, 15"
-abbrev pub settings_order : Settings → List Refusal
+abbrev pub settings_order : Settings → List Condition
 settings_order s =
     refused13 s.largest gives 13
     ∷ refused14 s.generation.0 s.request_path.0 s.data_path.0 gives 14
@@ -85,13 +86,5 @@ abbrev pub settings_refusal : Settings → ℕ
 settings_refusal s = first_of (settings_order s)
 
 -- accepted settings carry G, W, P, D, the one-way time and the headroom
-unfoldable pub settling : Settings → Settling
-settling s =
-    pick (eqb (settings_refusal s) 0)
-    (Accepted (kept s.largest s.generation.0 s.request_path.0 s.data_path.0))
-    (Refused (settings_refusal s))
-
--- document 01's number of an answer: the refusal's, or 0
-unfoldable pub settling_number_of : Settling → ℕ
-settling_number_of (Accepted room) = 0
-settling_number_of (Refused number) = number
+unfoldable pub settling : Settings → Result Kept Refusal
+settling s = refused_or (settings_refusal s) (kept s.largest s.generation.0 s.request_path.0 s.data_path.0)

@@ -12,4 +12,4 @@ pub take_effect_decides : (κs : Lfts 2) (args : Dens κs take_effect_kinds.ps) 
     (e f : AtExit (ended_of 2 take_effect_kinds.ps take_effect_kinds.r) κs) → take_effect.Post κs args x e → take_effect.Post κs args y f →
     (x ≡ y) × (e.1.1.0.now ≡ f.1.1.0.now) × (e.1.1.1.0.now ≡ f.1.1.1.0.now)
 take_effect_decides κs args x y e f p q =
-    (p.0 ∙ sym q.0, p.1.ends_are ∙ sym q.1.ends_are, p.1.slots_are ∙ sym q.1.slots_are)
+    (p.1.0 ∙ sym q.1.0, p.1.1.ends_are ∙ sym q.1.1.ends_are, p.1.1.slots_are ∙ sym q.1.1.slots_are)

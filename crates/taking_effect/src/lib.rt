@@ -2,15 +2,17 @@
 #![tactic(auto)]
 
 ghost use Rattle.std.specs.Prelude.{◌≡◌, take};
+ghost use Rattle.refusals.specs.Refusals.{number_of, refused_or};
 ghost use Rattle.frame.specs.Read.{verdict};
 ghost use Rattle.bench_meaning.specs.Step.{address_a, effect_of};
-ghost use Rattle.bench_state.specs.Answered.{answered, ended_in, Left};
+ghost use Rattle.bench_state.specs.Answered.{ended_in, Left};
 ghost use Rattle.taking_effect.specs.Effect.{effect_leaves};
 
-use bench_state::{Bench, Stepped};
-use frame::Verdict;
+use bench_state::Bench;
+use frame::Request;
 use head::Head;
 use recorder::Watch;
+use refusals::Refusal;
 use rows::Direction;
 
 // A's own address.
@@ -20,7 +22,7 @@ const ADDRESS_A: [u8; 6] = [0x02, 0x00, 0x00, 0x00, 0x00, 0x0A];
 const PFC_WIDTH: usize = 60;
 
 // What the octets in the first slot are, read as A reads a frame.
-fn read_first(watch: Watch, slots: &[u8]) -> Verdict
+fn read_first(watch: Watch, slots: &[u8]) -> Result<Option<Request>, Refusal>
     ensures { result ≡ verdict (take 60 slots.now) watch.settings.largest address_a }
 {
     if slots.len() < PFC_WIDTH {
@@ -30,38 +32,41 @@ fn read_first(watch: Watch, slots: &[u8]) -> Verdict
 }
 
 // What a PFC frame does at A: a request is taken, anything else changes nothing.
-#[tactic(auto, unfolding(ground::specs::Pick::pick, bench_meaning::specs::Step::effect_of))]
-fn effect(found: Verdict, head: Head) -> Head
+#[tactic(auto, unfolding(bench_meaning::specs::Step::effect_of))]
+fn effect(found: Result<Option<Request>, Refusal>, head: Head) -> Head
     ensures { result ≡ effect_of found head }
 {
     match found {
-        Verdict::Data => head,
-        Verdict::Refused(_) => head,
-        Verdict::Asks(request) => head.taken(request.e, frame::times_of(request)),
+        Ok(Some(request)) => head.taken(request.e, request.times),
+        _ => head,
     }
 }
 
 // Kind 06: the oldest PFC frame takes effect at A.
-#[tactic(auto, using(bench_state::proofs::Ended::ended_some), unfolding(ground::specs::Pick::pick))]
-pub fn take_effect(watch: Watch, bench: Bench, ends: &mut [u64], slots: &mut [u8]) -> Stepped
-    ensures { (result ≡ answered (ended_in bench.to_a.count ends.old bench.clock.0) bench
-        (effect_leaves watch bench slots.old))
-        × Left (ended_in bench.to_a.count ends.old bench.clock.0) bench.to_a 60
+#[tactic(auto, using(bench_state::proofs::Ended::ended_some), unfolding(refusals::specs::Refusals::refused_or, ground::specs::Pick::pick))]
+pub fn take_effect(
+    watch: Watch,
+    bench: Bench,
+    ends: &mut [u64],
+    slots: &mut [u8],
+) -> Result<Bench, Refusal>
+    ensures number { number_of result ≡ ended_in bench.to_a.count ends.old bench.clock.0 }
+    ensures answer { result ≡ refused_or (ended_in bench.to_a.count ends.old bench.clock.0)
+        (effect_leaves watch bench slots.old) }
+    ensures lent { Left (ended_in bench.to_a.count ends.old bench.clock.0) bench.to_a 60
         ends.old slots.old ends.new slots.new }
 {
-    let to_a = bench.to_a;
-    let number = bench_state::ended_number(ends, to_a, bench.clock);
-    if number != 0 {
-        return bench_state::refused(number, bench);
-    }
-    let head = bench.head;
-    let after = effect(read_first(watch, slots), head);
-    let left = to_a.count - 1;
+    bench_state::may_leave(ends, bench.to_a, bench.clock)?;
+    let head = effect(read_first(watch, slots), bench.head);
+    let left = bench.to_a.count - 1;
     rows::leave(ends, slots, PFC_WIDTH, left);
-    let free = to_a.free;
-    let others = Direction { free, count: left };
-    let mut next = bench;
-    next.head = after;
-    next.to_a = others;
-    bench_state::accepted(next)
+    let others = Direction {
+        count: left,
+        ..bench.to_a
+    };
+    Ok(Bench {
+        head,
+        to_a: others,
+        ..bench
+    })
 }

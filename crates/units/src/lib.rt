@@ -6,15 +6,15 @@ ghost use Rattle.std.specs.Prelude.{◌≡◌, ◌+◌};
 ghost use Rattle.units.specs.Units.{bits_of_octets, bits_of_quanta, octets_of_bits, octets_of_quanta, quanta_of_bits, wire_time, within64};
 
 // A count of bit times.
-#[derive(Clone, Copy)]
+#[derive(Clone, Copy, Debug, PartialEq, Eq, PartialOrd, Ord)]
 pub struct BitTimes(pub u64);
 
 // A count of octet times, 8 bit times each.
-#[derive(Clone, Copy)]
+#[derive(Clone, Copy, Debug, PartialEq, Eq, PartialOrd, Ord)]
 pub struct OctetTimes(pub u64);
 
 // A count of pause quanta, 512 bit times each.
-#[derive(Clone, Copy)]
+#[derive(Clone, Copy, Debug, PartialEq, Eq, PartialOrd, Ord)]
 pub struct Quanta(pub u64);
 
 // The octet times of a pause quantum.
@@ -26,25 +26,18 @@ pub const BESIDE_FRAME: OctetTimes = OctetTimes(20);
 // The wire time of a PFC frame.
 pub const PFC_TIME: OctetTimes = OctetTimes(84);
 
-// The sum of two counts of one kind.
-fn sum(a: u64, b: u64) -> u64
-    ensures { result ≡ within64 (a + b) }
-{
-    if a <= u64::MAX - b { a + b } else { u64::MAX }
-}
-
 // The bit times of two delays, one after the other.
 pub fn sum_of_bits(one: BitTimes, other: BitTimes) -> BitTimes
     ensures { result.0 ≡ within64 (one.0 + other.0) }
 {
-    BitTimes(sum(one.0, other.0))
+    BitTimes(one.0.saturating_add(other.0))
 }
 
 // The moment that comes a count of octet times after a moment; the time of two spans, one after the other.
 pub fn later(moment: OctetTimes, count: OctetTimes) -> OctetTimes
     ensures { result.0 ≡ within64 (moment.0 + count.0) }
 {
-    OctetTimes(sum(moment.0, count.0))
+    OctetTimes(moment.0.saturating_add(count.0))
 }
 
 // The time that a frame of so many octets holds its wire.
@@ -58,45 +51,33 @@ pub fn wire_time(length: u64) -> OctetTimes
 pub fn bits_of_octets(o: OctetTimes) -> BitTimes
     ensures { result.0 ≡ within64 (bits_of_octets o.0) }
 {
-    if o.0 <= u64::MAX / 8 {
-        BitTimes(8 * o.0)
-    } else {
-        BitTimes(u64::MAX)
-    }
+    BitTimes(o.0.saturating_mul(8))
 }
 
 // The bit times of a count of pause quanta.
 pub fn bits_of_quanta(q: Quanta) -> BitTimes
     ensures { result.0 ≡ within64 (bits_of_quanta q.0) }
 {
-    if q.0 <= u64::MAX / 512 {
-        BitTimes(512 * q.0)
-    } else {
-        BitTimes(u64::MAX)
-    }
+    BitTimes(q.0.saturating_mul(512))
 }
 
 // The octet times of a count of pause quanta.
 pub fn octets_of_quanta(q: Quanta) -> OctetTimes
     ensures { result.0 ≡ within64 (octets_of_quanta q.0) }
 {
-    if q.0 <= u64::MAX / QUANTUM.0 {
-        OctetTimes(QUANTUM.0 * q.0)
-    } else {
-        OctetTimes(u64::MAX)
-    }
+    OctetTimes(q.0.saturating_mul(QUANTUM.0))
 }
 
 // The octet times that hold a count of bit times: rounded up.
 pub fn octets_of_bits(b: BitTimes) -> OctetTimes
     ensures { result.0 ≡ octets_of_bits b.0 }
 {
-    OctetTimes(b.0 / 8 + (b.0 % 8 + 7) / 8)
+    OctetTimes(b.0.div_ceil(8))
 }
 
 // The pause quanta that hold a count of bit times: rounded up.
 pub fn quanta_of_bits(b: BitTimes) -> Quanta
     ensures { result.0 ≡ quanta_of_bits b.0 }
 {
-    Quanta(b.0 / 512 + (b.0 % 512 + 511) / 512)
+    Quanta(b.0.div_ceil(512))
 }

@@ -1,26 +1,27 @@
-// What a case asks: its body is taken apart, the library is called, and the answer is printed; each function answers
-// whether all of its line was written. A body that is too short is `short`.
-ghost use Rattle.std.specs.Prelude.{◌+◌, ◌≤◌, length};
+// What a case asks: its body is taken apart, the library is called, and the answer is printed. A body that is too
+// short is `short`.
+ghost use Rattle.std.specs.Prelude.{◌+◌, ◌≤◌, length, IfSome};
 
 use crate::{fields, print};
 use head::Head;
 use headroom_sum::Inputs;
+use remarks::Told;
 use settings::Settings;
 use units::{BitTimes, OctetTimes, Quanta};
 
 // M 8, own address 6, frame: what the frame is, and the part handed back.
-pub(crate) fn reading(rt: &HostRuntime, body: &[u8]) -> bool {
+pub(crate) fn reading(rt: &HostRuntime, body: &[u8]) -> Result<(), Told> {
     if body.len() < 14 {
         return print::short(rt);
     }
     let largest = octets::wide_at(body, 0);
     let own = fields::address(body, 8);
-    let well = print::verdict(rt, frame::read(&body[14..], largest, own));
-    print::part(rt, well, frame::part(&body[14..], largest, own))
+    print::verdict(rt, frame::read(&body[14..], largest, own))?;
+    print::part(rt, frame::part(&body[14..], largest, own))
 }
 
 // Source 6, e 1, times 8 x 2, buffer: the buffer is lent as it stands in the case.
-pub(crate) fn building(rt: &HostRuntime, body: &mut [u8]) -> bool {
+pub(crate) fn building(rt: &HostRuntime, body: &mut [u8]) -> Result<(), Told> {
     if body.len() < 23 {
         return print::short(rt);
     }
@@ -30,30 +31,28 @@ pub(crate) fn building(rt: &HostRuntime, body: &mut [u8]) -> bool {
     build_in(rt, &mut body[23..], source, e, times)
 }
 
-fn build_in(rt: &HostRuntime, buffer: &mut [u8], source: [u8; 6], e: u8, times: [u16; 8]) -> bool {
-    let built = frame_build::build(buffer, source, e, times);
-    print::part(rt, print::built(rt, built), buffer)
+fn build_in(
+    rt: &HostRuntime,
+    buffer: &mut [u8],
+    source: [u8; 6],
+    e: u8,
+    times: [u16; 8],
+) -> Result<(), Told> {
+    print::built(rt, frame_build::build(buffer, source, e, times))?;
+    print::part(rt, buffer)
 }
 
-// The octets of the action at a place of a row; 0 where the row ends there.
-fn action_size(row: &[u8], at: usize) -> usize
+// The octets of the action at a place of a row; none where the row ends there.
+fn action_size(row: &[u8], at: usize) -> Option<usize>
     requires { at ≤ length row.now }
-    ensures { at + result ≤ length row.now }
+    ensures { IfSome result (λ size. (9 ≤ size) × (at + size ≤ length row.now)) }
 {
     let left = row.len() - at;
-    if left < 9 {
-        return 0;
+    match row.get(at) {
+        Some(0x01) if left >= 9 => Some(9),
+        Some(0x00) if left >= 18 => Some(18),
+        _ => None,
     }
-    if row[at] == 0x01 {
-        return 9;
-    }
-    if left < 18 {
-        return 0;
-    }
-    if row[at] == 0x00 {
-        return 18;
-    }
-    0
 }
 
 // The head after the action at a place of a row, of so many octets.
@@ -72,19 +71,15 @@ fn after_row(head: Head, row: &[u8], start: usize) -> Head
 {
     let mut now = head;
     let mut at = start;
-    loop {
-        let size = action_size(row, at);
-        if size < 9 {
-            return now;
-        }
-        let next = acted(now, row, at, size);
-        now = next;
+    while let Some(size) = action_size(row, at) {
+        now = acted(now, row, at, size);
         at += size;
     }
+    now
 }
 
 // Enabled 1, indications so far 4, timers 8 x 2, then the row of actions.
-pub(crate) fn timers(rt: &HostRuntime, body: &[u8]) -> bool {
+pub(crate) fn timers(rt: &HostRuntime, body: &[u8]) -> Result<(), Told> {
     if body.len() < 21 {
         return print::short(rt);
     }
@@ -98,7 +93,7 @@ pub(crate) fn timers(rt: &HostRuntime, body: &[u8]) -> bool {
 }
 
 // Fronts 8, map 8, paused marks 1.
-pub(crate) fn choice(rt: &HostRuntime, body: &[u8]) -> bool {
+pub(crate) fn choice(rt: &HostRuntime, body: &[u8]) -> Result<(), Told> {
     if body.len() < 17 {
         return print::short(rt);
     }
@@ -110,7 +105,7 @@ pub(crate) fn choice(rt: &HostRuntime, body: &[u8]) -> bool {
 }
 
 // Rate, metres, percentage, M, generation, B transmit, B receive, A transmit, A receive, halt: 8 octets each.
-pub(crate) fn headroom(rt: &HostRuntime, body: &[u8]) -> bool {
+pub(crate) fn headroom(rt: &HostRuntime, body: &[u8]) -> Result<(), Told> {
     if body.len() < 80 {
         return print::short(rt);
     }
@@ -130,7 +125,7 @@ pub(crate) fn headroom(rt: &HostRuntime, body: &[u8]) -> bool {
 }
 
 // Enabled 1, M 8, generation 8, request path 8, data path 8, T 2, I 8, hysteresis 8, rooms 8 x 8.
-pub(crate) fn settings(rt: &HostRuntime, body: &[u8]) -> bool {
+pub(crate) fn settings(rt: &HostRuntime, body: &[u8]) -> Result<(), Told> {
     if body.len() < 115 {
         return print::short(rt);
     }
@@ -149,18 +144,19 @@ pub(crate) fn settings(rt: &HostRuntime, body: &[u8]) -> bool {
     print::settling(rt, settings::settle(settings))
 }
 
-fn send<'a>(rt: &HostRuntime, control: &'a [u8], data: &'a [u8], due: bool) -> bool {
-    let well = print::refusal(rt, b"sender ", sender::send_refusal(control));
-    print::part(rt, well, sender::to_send(control, data, due))
+fn send<'a>(rt: &HostRuntime, control: &'a [u8], data: &'a [u8], due: bool) -> Result<(), Told> {
+    let number = sender::send_refusal(control).map_or(0, |refusal| refusal.number());
+    print::refusal(rt, b"sender ", number)?;
+    print::part(rt, sender::to_send(control, data, due))
 }
 
 // Due 1, control length 2, data length 2, control frame, data frame.
-pub(crate) fn sender(rt: &HostRuntime, body: &[u8]) -> bool {
+pub(crate) fn sender(rt: &HostRuntime, body: &[u8]) -> Result<(), Told> {
     if body.len() < 5 {
         return print::short(rt);
     }
-    let control = octets::word_at(body, 1) as usize;
-    let data = octets::word_at(body, 3) as usize;
+    let control = usize::from(octets::word_at(body, 1));
+    let data = usize::from(octets::word_at(body, 3));
     let middle = 5 + control;
     let end = middle + data;
     if body.len() < end {

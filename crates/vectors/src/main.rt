@@ -7,8 +7,10 @@ mod asked;
 mod fields;
 mod print;
 
-// Answers one case: an octet that says what is asked, and its body. Whether all of its line was written.
-fn answer(rt: &HostRuntime, case: &mut [u8]) -> bool {
+use remarks::Told;
+
+// Answers one case: an octet that says what is asked, and its body.
+fn answer(rt: &HostRuntime, case: &mut [u8]) -> Result<(), Told> {
     if case.len() < 1 {
         return print::short(rt);
     }
@@ -26,22 +28,20 @@ fn answer(rt: &HostRuntime, case: &mut [u8]) -> bool {
     }
 }
 
-// Answers the cases of a file in order, up to one that is cut short or a write that fails.
-fn answer_all(rt: &HostRuntime, file: &mut [u8]) {
+// Answers the cases of a file in order, up to one that is cut short or a write that fails. (By a place: each case has a length of its own.)
+fn answer_all(rt: &HostRuntime, file: &mut [u8]) -> Result<(), Told> {
     let mut at: usize = 0;
     while file.len() - at >= 2 {
-        let size = octets::word_at(file, at) as usize;
+        let size = usize::from(octets::word_at(file, at));
         let start = at + 2;
         if file.len() - start < size {
-            return;
+            break;
         }
         let end = start + size;
-        let is_written = answer(rt, &mut file[start..end]);
-        if !is_written {
-            return;
-        }
+        answer(rt, &mut file[start..end])?;
         at = end;
     }
+    Ok(())
 }
 
 fn buffer() -> [u8; 1_048_576] {
@@ -50,9 +50,7 @@ fn buffer() -> [u8; 1_048_576] {
 
 fn main(rt: HostRuntime) {
     let mut file = buffer();
-    let reading = console::input::read_whole(&rt, &mut rt.stdin(), b"vectors", &mut file);
-    if reading.is_whole {
-        let n = reading.count;
-        answer_all(&rt, &mut file[..n]);
+    if let Ok(n) = console::input::read_whole(&rt, &mut rt.stdin(), b"vectors", &mut file) {
+        let _ = answer_all(&rt, &mut file[..n]);
     }
 }

@@ -1,111 +1,106 @@
-// The lines of docs/VECTORS.md: numbers in decimal, octets as lower-case hex, `-` for no octets. Each function answers whether
-// all was written; what goes on with a line writes only where that is so of what stands before it.
-ghost use Rattle.std.specs.Prelude.{◌+◌, ◌≤◌, length};
+// The lines of docs/VECTORS.md: numbers in decimal, octets as lower-case hex, `-` for no octets. A line that cannot be written ends there.
+ghost use Rattle.std.specs.Prelude.{◌≤◌, length};
 
-use choice::Choice;
-use frame::{Request, Verdict};
-use frame_build::Built;
+use frame::Request;
 use head::Head;
-use headroom_sum::{Items, Summed};
+use headroom_sum::Items;
 use itoa::Buffer;
+use refusals::Refusal;
+use remarks::Told;
 use room_to_keep::Kept;
-use settings::Settling;
 
-fn text(rt: &HostRuntime, is_well: bool, words: &[u8]) -> bool {
-    console::output::write(rt, &mut rt.stdout(), b"vectors", is_well, words)
+fn text(rt: &HostRuntime, words: &[u8]) -> Result<(), Told> {
+    console::output::write(rt, &mut rt.stdout(), b"vectors", words)
 }
 
 // A word and a number after it.
-fn item(rt: &HostRuntime, is_well: bool, word: &[u8], n: u64) -> bool {
+fn item(rt: &HostRuntime, word: &[u8], n: u64) -> Result<(), Told> {
     let mut digits = Buffer::new();
-    let is_well = text(rt, is_well, word);
-    text(rt, is_well, digits.format(n).as_bytes())
+    text(rt, word)?;
+    text(rt, digits.format(n).as_bytes())
 }
 
-pub(crate) fn short(rt: &HostRuntime) -> bool {
-    text(rt, true, b"short\n")
+pub(crate) fn short(rt: &HostRuntime) -> Result<(), Told> {
+    text(rt, b"short\n")
 }
 
 // The lower-case digit of a number's low four bits.
 fn digit(n: u8) -> u8 {
-    let low = n % 16;
-    if low < 10 { 48 + low } else { 87 + low }
+    b"0123456789abcdef"[usize::from(n % 16)]
 }
 
-// The hex of so many octets from a place on, at most 256.
-fn hex_some(rt: &HostRuntime, is_well: bool, octets: &[u8], at: usize, count: usize) -> bool
-    requires { (at + count ≤ length octets.now) × (count ≤ 256) }
+// The hex of octets, of at most 256.
+fn hex_some(rt: &HostRuntime, octets: &[u8]) -> Result<(), Told>
+    requires { length octets.now ≤ 256 }
 {
     let mut digits = [0u8; 512];
-    for i in 0..count {
-        let octet = octets[at + i];
-        digits[2 * i] = digit(octet / 16);
-        digits[2 * i + 1] = digit(octet);
+    for (i, octet) in octets.iter().enumerate() {
+        digits[2 * i] = digit(*octet / 16);
+        digits[2 * i + 1] = digit(*octet);
     }
-    text(rt, is_well, &digits[..2 * count])
+    text(rt, &digits[..2 * octets.len()])
 }
 
 // The hex of octets.
-fn hex(rt: &HostRuntime, is_well: bool, octets: &[u8]) -> bool {
-    let mut well = is_well;
-    let mut at: usize = 0;
-    while octets.len() - at > 256 {
-        well = hex_some(rt, well, octets, at, 256);
-        at += 256;
+fn hex(rt: &HostRuntime, octets: &[u8]) -> Result<(), Told> {
+    for some in octets.chunks(256) {
+        hex_some(rt, some)?;
     }
-    hex_some(rt, well, octets, at, octets.len() - at)
+    Ok(())
 }
 
 // The end of a line: a blank and a part, or `-` for an empty one.
-pub(crate) fn part(rt: &HostRuntime, is_well: bool, octets: &[u8]) -> bool {
-    if octets.len() == 0 {
-        return text(rt, is_well, b" -\n");
+pub(crate) fn part(rt: &HostRuntime, octets: &[u8]) -> Result<(), Told> {
+    if octets.is_empty() {
+        return text(rt, b" -\n");
     }
-    text(rt, hex(rt, text(rt, is_well, b" "), octets), b"\n")
+    text(rt, b" ")?;
+    hex(rt, octets)?;
+    text(rt, b"\n")
 }
 
 // The start of a line: a word and the number of a refusal, or 0.
-pub(crate) fn refusal(rt: &HostRuntime, word: &[u8], number: u8) -> bool {
-    item(rt, true, word, number as u64)
+pub(crate) fn refusal(rt: &HostRuntime, word: &[u8], number: u8) -> Result<(), Told> {
+    item(rt, word, u64::from(number))
 }
 
 // A whole line of a word and the number of a refusal.
-fn refused(rt: &HostRuntime, word: &[u8], number: u8) -> bool {
-    text(rt, refusal(rt, word, number), b"\n")
+fn refused(rt: &HostRuntime, word: &[u8], number: u8) -> Result<(), Told> {
+    refusal(rt, word, number)?;
+    text(rt, b"\n")
 }
 
 // Eight numbers, a blank before each.
-fn eight(rt: &HostRuntime, is_well: bool, numbers: [u16; 8]) -> bool {
-    let mut well = is_well;
+fn eight(rt: &HostRuntime, numbers: [u16; 8]) -> Result<(), Told> {
     for number in numbers {
-        well = item(rt, well, b" ", number as u64);
+        item(rt, b" ", u64::from(number))?;
     }
-    well
+    Ok(())
 }
 
-fn asks(rt: &HostRuntime, asked: Request) -> bool {
-    eight(
-        rt,
-        item(rt, true, b"read request ", asked.e as u64),
-        frame::times_of(asked),
-    )
+fn asks(rt: &HostRuntime, asked: Request) -> Result<(), Told> {
+    item(rt, b"read request ", u64::from(asked.e))?;
+    eight(rt, asked.times)
 }
 
 // What a frame is; the part follows on the same line.
-pub(crate) fn verdict(rt: &HostRuntime, found: Verdict) -> bool {
-    let well = match found {
-        Verdict::Data => text(rt, true, b"read data"),
-        Verdict::Asks(asked) => asks(rt, asked),
-        Verdict::Refused(number) => refusal(rt, b"read ", number),
-    };
-    text(rt, well, b" part")
+pub(crate) fn verdict(
+    rt: &HostRuntime,
+    found: Result<Option<Request>, Refusal>,
+) -> Result<(), Told> {
+    match found {
+        Ok(None) => text(rt, b"read data")?,
+        Ok(Some(asked)) => asks(rt, asked)?,
+        Err(refused) => refusal(rt, b"read ", refused.number())?,
+    }
+    text(rt, b" part")
 }
 
 // What building answered; the buffer follows on the same line.
-pub(crate) fn built(rt: &HostRuntime, answer: Built) -> bool {
+pub(crate) fn built(rt: &HostRuntime, answer: Result<(), Refusal>) -> Result<(), Told> {
     match answer {
-        Built::Written => text(rt, true, b"build 0"),
-        Built::Refused(number) => refusal(rt, b"build ", number),
+        Ok(()) => text(rt, b"build 0"),
+        Err(refused) => refusal(rt, b"build ", refused.number()),
     }
 }
 
@@ -123,55 +118,56 @@ fn joined(m: [bool; 8]) -> u64 {
     low + high
 }
 
-pub(crate) fn head(rt: &HostRuntime, state: Head) -> bool {
-    let timers = state.timers;
-    let well = eight(rt, text(rt, true, b"head"), timers);
-    let well = item(rt, well, b" paused ", joined(state.marks()));
-    let well = item(rt, well, b" indications ", state.indications as u64);
-    text(rt, well, b"\n")
+pub(crate) fn head(rt: &HostRuntime, state: Head) -> Result<(), Told> {
+    text(rt, b"head")?;
+    eight(rt, state.timers)?;
+    item(rt, b" paused ", joined(state.marks()))?;
+    item(rt, b" indications ", u64::from(state.indications))?;
+    text(rt, b"\n")
 }
 
-pub(crate) fn choice(rt: &HostRuntime, answer: Choice) -> bool {
+pub(crate) fn choice(rt: &HostRuntime, answer: Result<Option<u8>, Refusal>) -> Result<(), Told> {
     match answer {
-        Choice::Class(class) => refused(rt, b"choice class ", class),
-        Choice::Nothing => text(rt, true, b"choice none\n"),
-        Choice::Refused(number) => refused(rt, b"choice ", number),
+        Ok(Some(class)) => refused(rt, b"choice class ", class),
+        Ok(None) => text(rt, b"choice none\n"),
+        Err(refusal) => refused(rt, b"choice ", refusal.number()),
     }
 }
 
 // What is kept, in octet times, to the line's end.
-fn kept(rt: &HostRuntime, is_well: bool, room: Kept) -> bool {
-    let well = item(rt, is_well, b" G ", room.generation.0);
-    let well = item(rt, well, b" W ", room.wire.0);
-    let well = item(rt, well, b" P ", room.request.0);
-    let well = item(rt, well, b" D ", room.data.0);
-    let well = item(rt, well, b" oneway ", room.one_way.0);
-    let well = item(rt, well, b" headroom ", room.headroom.0);
-    text(rt, well, b"\n")
+fn kept(rt: &HostRuntime, room: Kept) -> Result<(), Told> {
+    item(rt, b" G ", room.generation.0)?;
+    item(rt, b" W ", room.wire.0)?;
+    item(rt, b" P ", room.request.0)?;
+    item(rt, b" D ", room.data.0)?;
+    item(rt, b" oneway ", room.one_way.0)?;
+    item(rt, b" headroom ", room.headroom.0)?;
+    text(rt, b"\n")
 }
 
-fn items(rt: &HostRuntime, sum: Items) -> bool {
-    let well = item(rt, true, b"headroom link ", sum.link.0);
-    let well = item(rt, well, b" request ", sum.request_path.0);
-    let well = item(rt, well, b" data ", sum.data_path.0);
-    let well = item(rt, well, b" total ", sum.total.0);
-    kept(rt, well, sum.room)
+fn items(rt: &HostRuntime, sum: Items) -> Result<(), Told> {
+    item(rt, b"headroom link ", sum.link.0)?;
+    item(rt, b" request ", sum.request_path.0)?;
+    item(rt, b" data ", sum.data_path.0)?;
+    item(rt, b" total ", sum.total.0)?;
+    kept(rt, sum.room)
 }
 
-pub(crate) fn summed(rt: &HostRuntime, answer: Summed) -> bool {
+pub(crate) fn summed(rt: &HostRuntime, answer: Result<Items, Refusal>) -> Result<(), Told> {
     match answer {
-        Summed::Whole(sum) => items(rt, sum),
-        Summed::Refused(number) => refused(rt, b"headroom ", number),
+        Ok(sum) => items(rt, sum),
+        Err(refusal) => refused(rt, b"headroom ", refusal.number()),
     }
 }
 
-fn accepted(rt: &HostRuntime, room: Kept) -> bool {
-    kept(rt, text(rt, true, b"settings"), room)
+fn accepted(rt: &HostRuntime, room: Kept) -> Result<(), Told> {
+    text(rt, b"settings")?;
+    kept(rt, room)
 }
 
-pub(crate) fn settling(rt: &HostRuntime, answer: Settling) -> bool {
+pub(crate) fn settling(rt: &HostRuntime, answer: Result<Kept, Refusal>) -> Result<(), Told> {
     match answer {
-        Settling::Accepted(room) => accepted(rt, room),
-        Settling::Refused(number) => refused(rt, b"settings ", number),
+        Ok(room) => accepted(rt, room),
+        Err(refusal) => refused(rt, b"settings ", refusal.number()),
     }
 }

@@ -6,4 +6,4 @@ use Rattle.waiting.proofs.wait_for.Kinds as wait_for_kinds
 use Rattle.waiting.proofs.wait_for.Reads as wait_for
 
 pub wait_for_decides : Decides 2 wait_for_kinds.ps wait_for_kinds.r wait_for.Post
-wait_for_decides κs args x y e f p q = p ∙ sym q
+wait_for_decides κs args x y e f p q = p.1 ∙ sym q.1

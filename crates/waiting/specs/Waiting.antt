@@ -1,18 +1,17 @@
 -- A wait as the code takes it: the walk from where the bench stands, the bounds where it ends, and what goes by value then.
-use Rattle.std.specs.Prelude.{ℕ, ◌+◌, Bool, true, List}
+use Rattle.std.specs.Prelude.{ℕ, ◌+◌, Bool, true, List, Result}
 use Rattle.ground.specs.Pick.{pick}
+use Rattle.refusals.specs.Refusals.{refused_or}
+use Rattle.refusals.specs.declared.Refusal.{Refusal}
 use Rattle.units.specs.Units.{within64}
-use Rattle.moments.specs.Moments.{past_due}
-use Rattle.moments.specs.declared.Moment.{Moment}
+use Rattle.moments.specs.Moments.{Moment, past_due}
 use Rattle.marks.specs.Marks.{refresh_of, with_due}
 use Rattle.recorder.specs.declared.Watch.{Watch}
 use Rattle.rows.specs.Rows.{oldest_in}
 use Rattle.walk.specs.Walk.{walked_by}
 use Rattle.walk.specs.declared.Walk.{Walk}
 use Rattle.decisions.specs.Chains.{wait_number}
-use Rattle.bench_state.specs.Answered.{answered}
 use Rattle.bench_state.specs.declared.Bench.{Bench}
-use Rattle.bench_state.specs.declared.Stepped.{Stepped}
 
 -- the walk of a wait from where the bench stands
 unfoldable pub walk_from : Watch → Bench → ℕ → Walk
@@ -47,8 +46,11 @@ late_after w bench data_ends pfc_ends walk =
     (within64 (w.kept.generation.0 + w.kept.wire.0))
     walk.clock.0
 
+-- the number of a wait
+unfoldable pub waiting_number : Watch → Bench → List ℕ → List ℕ → ℕ → ℕ
+waiting_number w bench data_ends pfc_ends n =
+    wait_number (within64 (bench.clock.0 + n)) (late_after w bench data_ends pfc_ends (walk_from w bench n))
+
 -- a wait is taken whole or refused whole
-unfoldable pub waited_by : Watch → Bench → List ℕ → List ℕ → ℕ → Stepped
-waited_by w bench data_ends pfc_ends n =
-    answered (wait_number (within64 (bench.clock.0 + n)) (late_after w bench data_ends pfc_ends (walk_from w bench n))) bench
-    (after_walk bench (walk_from w bench n))
+unfoldable pub waited_by : Watch → Bench → List ℕ → List ℕ → ℕ → Result Bench Refusal
+waited_by w bench data_ends pfc_ends n = refused_or (waiting_number w bench data_ends pfc_ends n) (after_walk bench (walk_from w bench n))

@@ -3,8 +3,7 @@ use Rattle.std.specs.Prelude.{ℕ, ◌+◌, ◌-◌, ◌/◌, ◌^◌, Bool, ltb
 use Rattle.ground.specs.Pick.{pick}
 use Rattle.units.specs.Units.{quantum}
 use Rattle.head.specs.Timers.{after_quanta}
-use Rattle.moments.specs.Moments.{due_by}
-use Rattle.moments.specs.declared.Moment.{Moment}
+use Rattle.moments.specs.Moments.{Moment, due_by}
 use Rattle.walk.specs.declared.Walk.{Walk}
 
 -- "A quantum passes at A when time reaches each positive multiple of 64.": as many as there are multiples on the way

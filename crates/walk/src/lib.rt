@@ -41,64 +41,54 @@ fn head_at(head: Head, clock: OctetTimes) -> Head
 }
 
 // One octet time passes.
-#[tactic(auto, unfolding(ground::specs::Pick::pick, crate::specs::Pacing::ticked))]
+#[tactic(auto, unfolding(crate::specs::Pacing::ticked))]
 fn tick(pace: Pace) -> Pace
     requires { pace.clock.0 < farthest }
     ensures { result ≡ ticked pace }
 {
-    let next = pace.clock.0 + 1;
-    let clock = OctetTimes(next);
-    let head = pace.head;
+    let clock = OctetTimes(pace.clock.0 + 1);
     Pace {
         clock,
-        head: head_at(head, clock),
+        head: head_at(pace.head, clock),
     }
 }
 
 // n octet times pass, one after the other.
 #[tactic(auto, using(crate::proofs::Walking::pace_more), unfolding(crate::specs::Pacing::paced_by))]
-fn paced(pace: Pace, n: u64) -> Pace
-    requires { pace.clock.0 + n < farthest }
-    ensures { result ≡ paced_by pace n }
+fn paced(start: Pace, n: u64) -> Pace
+    requires { start.clock.0 + n < farthest }
+    ensures { result ≡ paced_by start n }
 {
-    let mut p = pace;
-    let mut i: u64 = 0;
-    while i < n {
-        let next = tick(p);
-        p = next;
-        i += 1;
+    let mut pace = start;
+    for _i in 0..n {
+        pace = tick(pace);
     }
-    p
+    pace
 }
 
 // n octet times pass; where the refresh fell due on the way, PFC is due since its own moment.
+#[tactic(auto, unfolding(crate::specs::Pacing::paced_by))]
 fn walked_on(walk: Walk, refresh: Moment, n: u64) -> Walk
     requires { walk.clock.0 + n < farthest }
     ensures { result ≡ walked_on walk refresh n }
 {
-    let clock = walk.clock;
-    let head = walk.head;
-    let due = walk.due;
-    let end = paced(Pace { clock, head }, n);
-    let reached = end.clock;
-    let after = end.head;
+    let start = Pace {
+        clock: walk.clock,
+        head: walk.head,
+    };
+    let Pace { clock, head } = paced(start, n);
     Walk {
-        clock: reached,
-        head: after,
-        due: moments::due_by(refresh, reached, due),
+        clock,
+        head,
+        due: moments::due_by(refresh, clock, walk.due),
     }
 }
 
 // Whether n octet times on from a moment are below the farthest that a walk goes.
-#[tactic(auto, using(crate::proofs::WalkLaws::near_left, crate::proofs::WalkLaws::none_near), unfolding(ground::specs::Pick::pick))]
 fn is_near(clock: OctetTimes, n: u64) -> bool
     ensures { result ≡ is_near clock.0 n }
 {
-    if clock.0 <= FARTHEST {
-        n < FARTHEST - clock.0
-    } else {
-        false
-    }
+    clock.0.checked_add(n).is_some_and(|end| end < FARTHEST)
 }
 
 // n octet times pass, octet time by octet time; a walk that would go too far stays where it is.
@@ -106,8 +96,7 @@ fn is_near(clock: OctetTimes, n: u64) -> bool
 pub fn walked(walk: Walk, refresh: Moment, n: u64) -> Walk
     ensures { result ≡ walked_by walk refresh n }
 {
-    let clock = walk.clock;
-    if is_near(clock, n) {
+    if is_near(walk.clock, n) {
         walked_on(walk, refresh, n)
     } else {
         walk

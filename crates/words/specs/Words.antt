@@ -1,12 +1,15 @@
 -- How a word of the command line is read: a decimal number, or `rows:` and a digit for each row of Table N-1.
-use Rattle.std.specs.Prelude.{ℕ, ◌+◌, ◌-◌, ◌*◌, ◌^◌, Bool, false, List, [], ◌∷◌, map, ltb, eqb, length, get_or, drop}
+use Rattle.std.specs.Prelude.{ℕ, ◌+◌, ◌-◌, ◌*◌, ◌^◌, Bool, false, List, [], ◌∷◌, map, ltb, eqb, length, get_or, drop, Result, Ok, Err}
 use Rattle.ground.specs.Pick.{pick}
-use Rattle.ground.specs.First.{Refusal, ◌gives◌}
+use Rattle.ground.specs.First.{Condition, ◌gives◌}
 use Rattle.units.specs.Counts.{bits}
 use Rattle.interface_rows.specs.Stack.{index_from, stack_over, stack_answer}
-use Rattle.interface_rows.specs.declared.Stacked.{Stacked}
+use Rattle.interface_rows.specs.declared.Delays.{Delays}
+use Rattle.interface_rows.specs.declared.StackError.{StackError}
+use Rattle.interface_rows.specs.declared.StackError.TheVariants.{Unknown}
 use Rattle.headroom_sum.specs.declared.Inputs.{Inputs}
-use Rattle.words.specs.declared.Word.{Word}
+use Rattle.words.specs.declared.WordError.{WordError}
+use Rattle.words.specs.declared.WordError.TheVariants.{NotANumber, TooLarge}
 
 -- the largest number of 64 bits
 abbrev pub largest64 : ℕ
@@ -27,17 +30,17 @@ abbrev pub extended : ℕ → ℕ → ℕ
 extended so_far octet = 10 * so_far + (octet - zero')
 
 -- what is left of a word, read after a number so far: the first octet that is no digit, or that makes the number too large, decides
-unfoldable pub number_from : ℕ → List ℕ → Word
-number_from so_far [] = Word.Number so_far
+unfoldable pub number_from : ℕ → List ℕ → Result ℕ WordError
+number_from so_far [] = Ok so_far
 number_from so_far (octet ∷ rest) =
-    pick (ltb octet zero') Word.NotANumber
-    (pick (ltb nine' octet) Word.NotANumber
-    (pick (ltb largest64 (extended so_far octet)) Word.TooLarge
+    pick (ltb octet zero') (Err NotANumber)
+    (pick (ltb nine' octet) (Err NotANumber)
+    (pick (ltb largest64 (extended so_far octet)) (Err TooLarge)
     (number_from (extended so_far octet) rest)))
 
 -- a word of digits is a number; the empty word is none
-unfoldable pub number_of : List ℕ → Word
-number_of word = pick (eqb (length word) 0) Word.NotANumber (number_from 0 word)
+unfoldable pub number_of : List ℕ → Result ℕ WordError
+number_of word = pick (eqb (length word) 0) (Err NotANumber) (number_from 0 word)
 
 -- the word begins with `rows:`, of so many octets
 abbrev pub prefix : ℕ
@@ -54,18 +57,17 @@ is_rows word =
     false) false) false) false)
 
 -- the delays of the stack whose rows the digits after `rows:` name, counted from 1; a word too short for that names none
-unfoldable pub rows_answer : List ℕ → Stacked
-rows_answer word = pick (ltb (length word) prefix) Stacked.Unknown (stack_answer (map (index_from one') (drop prefix word)))
+unfoldable pub rows_answer : List ℕ → Result Delays StackError
+rows_answer word = pick (ltb (length word) prefix) (Err Unknown) (stack_answer (map (index_from one') (drop prefix word)))
 
 -- the one refusal of such a stack
-abbrev pub rows_order : List ℕ → List Refusal
+abbrev pub rows_order : List ℕ → List Condition
 rows_order word = pick (ltb (length word) prefix) false (stack_over (map (index_from one') (drop prefix word))) gives 14 ∷ []
 
 -- document 01's number of what a word says: it knows no words, and has a number for none of them
-unfoldable pub word_number_of : Word → ℕ
-word_number_of (Word.Number number) = 0
-word_number_of Word.NotANumber = 0
-word_number_of Word.TooLarge = 0
+unfoldable pub word_number_of : Result ℕ WordError → ℕ
+word_number_of (Ok number) = 0
+word_number_of (Err error) = 0
 
 -- the inputs in the order of the arguments: RATE METRES PERCENTAGE M GENERATION B_TRANSMIT B_RECEIVE A_TRANSMIT A_RECEIVE HALT
 abbrev pub inputs_of : List ℕ → Inputs

@@ -2,104 +2,74 @@
 // that align a printed one.
 #![tactic(auto)]
 
-ghost use Rattle.std.specs.Prelude.{◌≡◌, Bool, ◌-◌, max};
+ghost use Rattle.std.specs.Prelude.{◌≡◌, Bool, ◌+◌, ◌*◌, ◌^◌, ◌<◌, ◌-◌, max, SomeIff};
 ghost use Rattle.ground.specs.First.{first_of};
 ghost use Rattle.interface_rows.specs.Stack.{stack_number_of};
 ghost use Rattle.words.specs.Words.{number_of, word_number_of, is_rows, rows_order, rows_answer, inputs_of};
 
 use headroom_sum::Inputs;
-use interface_rows::Stacked;
+use interface_rows::{Delays, StackError};
 use units::BitTimes;
 
-// What a word says.
-#[derive(Clone, Copy)]
-pub enum Word {
-    Number(u64),
+// What a word says that is no number of 64 bits.
+#[derive(Clone, Copy, Debug, PartialEq, Eq)]
+pub enum WordError {
     NotANumber,
     TooLarge,
 }
 
-// The octets of the digits 0 and 9.
-const ZERO: u64 = 48;
-
-const NINE: u64 = 57;
-
 // The octets of `rows:`, after which digits name rows, counted from 1.
 const PREFIX: usize = 5;
 
-fn wide(octet: u8) -> u64
-    ensures { result ≡ octet }
+// A number followed by one more digit; none where 64 bits do not hold it.
+fn extended(so_far: u64, digit: u64) -> Option<u64>
+    ensures { SomeIff result (so_far * 10 + digit < 2 ^ 64) (so_far * 10 + digit) }
 {
-    octet as u64
+    so_far.checked_mul(10)?.checked_add(digit)
 }
 
 // A word of decimal digits as a number, up to what 64 bits hold. Any octets are answered.
 #[tactic(auto, using(crate::proofs::Reading::reading))]
-pub fn number_of(word: &[u8]) -> Word
+pub fn number_of(word: &[u8]) -> Result<u64, WordError>
     ensures { (word_number_of result ≡ 0) × (result ≡ number_of word.now) }
 {
-    if word.len() == 0 {
-        return Word::NotANumber;
+    if word.is_empty() {
+        return Err(WordError::NotANumber);
     }
-    let mut so_far: u64 = 0;
-    let mut i = 0;
-    while i < word.len() {
-        let octet = wide(word[i]);
-        if octet < ZERO {
-            return Word::NotANumber;
+    let mut so_far = 0;
+    for &octet in word {
+        if !(b'0'..=b'9').contains(&octet) {
+            return Err(WordError::NotANumber);
         }
-        if NINE < octet {
-            return Word::NotANumber;
-        }
-        if (u64::MAX - (octet - ZERO)) / 10 < so_far {
-            return Word::TooLarge;
-        }
-        so_far = 10 * so_far + (octet - ZERO);
-        i += 1;
+        so_far = extended(so_far, u64::from(octet - b'0')).ok_or(WordError::TooLarge)?;
     }
-    Word::Number(so_far)
+    Ok(so_far)
 }
 
 // The word names rows of Table N-1: it begins with `rows:`.
-#[tactic(auto, using(ground::proofs::Tests::tests), unfolding(ground::specs::Pick::pick, crate::specs::Words::is_rows))]
+#[tactic(auto, using(crate::proofs::Reading::begins))]
 pub fn is_rows(word: &[u8]) -> bool
     ensures { result ≡ is_rows word.now }
 {
-    if word.len() < PREFIX {
-        return false;
-    }
-    if word[0] != b'r' {
-        return false;
-    }
-    if word[1] != b'o' {
-        return false;
-    }
-    if word[2] != b'w' {
-        return false;
-    }
-    if word[3] != b's' {
-        return false;
-    }
-    word[4] == b':'
+    word.starts_with(b"rows:")
 }
 
-// The delays of the stack whose rows the digits after `rows:` name, counted from 1. A shorter word names no stack.
+// The delays of the stack whose rows the digits after `rows:` name, counted from 1. A shorter word names no stack. (What stands before the
+// digits is not looked at: by `strip_prefix` this would answer less.)
 #[tactic(auto, using(crate::proofs::Numbers::promised, crate::proofs::Reading::too_short, crate::proofs::Reading::from_prefix))]
-pub fn delays_of_rows(word: &[u8]) -> Stacked
+pub fn delays_of_rows(word: &[u8]) -> Result<Delays, StackError>
     ensures { (stack_number_of result ≡ first_of (rows_order word.now)) × (result ≡ rows_answer word.now)
         × (word.exit.now ≡ word.now) }
 {
-    if word.len() < PREFIX {
-        return Stacked::Unknown;
-    }
-    interface_rows::stack_delays(b'1', &word[PREFIX..])
+    let rows = word.get(PREFIX..).ok_or(StackError::Unknown)?;
+    interface_rows::stack_delays(b'1', rows)
 }
 
 // How many blanks stand before so many digits in a column: at least one.
 pub fn blanks(width: usize, digits: usize) -> usize
     ensures { result ≡ max 1 (width - digits) }
 {
-    if digits < width { width - digits } else { 1 }
+    width.saturating_sub(digits).max(1)
 }
 
 // The sum's inputs, in the order of the arguments.

@@ -7,11 +7,11 @@ use Rattle.bench_meaning.specs.Run.{settings_in, watch_with, follow_of}
 use Rattle.bench_run.proofs.Running.{settled_accepted}
 use Rattle.bench_run.proofs.settled.Goals as goal
 
-pub returns-in-Accepted : goal.returns-in-Accepted
-returns-in-Accepted c =
+pub returns-in-Ok : goal.returns-in-Ok
+returns-in-Ok c =
     let input = c.args.input.now in
-    let kept = c.in-Accepted.kept in
+    let kept = c.in-Ok.kept in
     c.follow.ensures ∙
     ap (λ (s : Settings). follow_of (watch_with s kept) (take (length input - 58) (drop 58 input))) c.settings_in-settings.ensures ∙
     ap (follow_of (watch_with (settings_in input) kept)) (take_rest 58 input) ∙
-    settled_accepted input _ (ap settling (sym c.settings_in-settings.ensures) ∙ sym c.in-Accepted.ensures.1)
+    settled_accepted input _ (ap settling (sym c.settings_in-settings.ensures) ∙ sym c.in-Ok.ensures.answer)

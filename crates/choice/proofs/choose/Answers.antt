@@ -1,22 +1,28 @@
 -- What `choose` answers, by what its parts promise. Assumes nothing.
-use Rattle.std.proofs.Common.{sym, ◌∙◌}
-use Rattle.choice.specs.Choice.{may_go}
-use Rattle.choice.proofs.Refusals.{choice_by, number_by}
-use Rattle.choice.proofs.Highest.{chosen_free, chosen_refused}
+use Rattle.std.proofs.Common.{ℕ, ap, ◌∙◌}
+use Rattle.std.specs.Prelude.{Ok}
+use Rattle.refusals.specs.Refusals.{refused_or}
+use Rattle.refusals.proofs.Refused.{handed_on, let_pass}
+use Rattle.choice.specs.Choice.{choice, highest, may_go}
+use Rattle.choice.proofs.Refusals.{bears, number_by}
 use Rattle.choice.proofs.choose.Goals as goal
 
-pub returns-then-number-ne0 : goal.returns-then-number-ne0
-returns-then-number-ne0 c =
+pub returns-in_err-refused : goal.returns-in_err-refused
+unfolding choice
+returns-in_err-refused c =
     let a = c.args in
-    let number =
-    number_by a.fronts a.map c.some_above-wild.ensures c.some_above-high.ensures c.some_misplaced.ensures c.refused-number.ensures in
-    choice_by a.fronts a.map a.paused number
-    (sym (chosen_refused c.refused-number.result (may_go a.fronts a.paused) c.if-number-ne0.true))
+    let number = number_by a.fronts a.map c.some_above-wild.ensures c.some_above-high.ensures c.some_misplaced.ensures in
+    let is =
+    handed_on _ (tt {0}) (highest (may_go a.fronts a.paused) 8) c.in_err-refused.field-0.0 c.from_residual.result c.from_residual.ensures.1
+    (c.in_err-refused.ensures ∙ ap (λ (n : ℕ). refused_or n (tt {0})) number) in
+    record { number = bears a.fronts a.map a.paused is; answer = is }
 
 pub returns : goal.returns
+unfolding choice
 returns c =
     let a = c.args in
-    let number =
-    number_by a.fronts a.map c.some_above-wild.ensures c.some_above-high.ensures c.some_misplaced.ensures c.refused-number.ensures in
-    choice_by a.fronts a.map a.paused number
-    (c.highest_free.ensures ∙ sym (chosen_free c.refused-number.result (may_go a.fronts a.paused) c.if-number-ne0.false))
+    let number = number_by a.fronts a.map c.some_above-wild.ensures c.some_above-high.ensures c.some_misplaced.ensures in
+    let is =
+    ap Ok c.highest_free.ensures ∙
+    let_pass _ (tt {0}) (highest (may_go a.fronts a.paused) 8) (tt {0}) (c.in_ok-refused.ensures ∙ ap (λ (n : ℕ). refused_or n (tt {0})) number) in
+    record { number = bears a.fronts a.map a.paused is; answer = is }

@@ -1,11 +1,7 @@
--- A class that may go is the highest of those that are left. Assumes nothing.
-use Rattle.std.proofs.Common.{ℕ, ◌-◌, Bool, sym, ◌∙◌, arith}
-use Rattle.choice.specs.Choice.{may_go}
-use Rattle.choice.proofs.Highest.{highest_here}
+-- The first class that may go, from 7 down, is the highest that may go. Assumes nothing.
+use Rattle.std.proofs.Common.{rules}
+use Rattle.choice.proofs.Highest.{find_is_highest}
 use Rattle.choice.proofs.highest_free.Goals as goal
 
-pub returns-then-may_go : goal.returns-then-may_go
-returns-then-may_go c =
-    let may : ℕ → Bool = may_go c.args.fronts c.args.paused in
-    let passed = c.loop-passed.passed in
-    sym (c.loop-passed.invariant.1 ∙ highest_here may (8 - passed) _ (omega arith) (sym c.may_go.ensures ∙ c.if-may_go.true))
+pub returns : goal.returns
+returns c = find_is_highest _ _ 8 c.rev.result _ _ c.find.result (search rules) c.find.ensures.ran (λ x b q called. search rules)

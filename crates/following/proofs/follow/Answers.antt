@@ -1,10 +1,14 @@
 -- Each record moves on along the run, a refused one stops it, and the end of the octets ends it. Assumes nothing.
-use Rattle.std.proofs.Common.{refl, sym, ap, subst, ◌∙◌, arith}
+use Rattle.std.proofs.Common.{◌+◌, refl, sym, ap, subst, ◌∙◌, arith}
 use Rattle.bench_memory.specs.Memory.{memory_of, Lent}
 use Rattle.bench_state.specs.declared.Bench.{Bench}
 use Rattle.bench_memory.proofs.Stepping.{step_lent}
-use Rattle.bench_state.proofs.Either.{accepted_zero, refused_nonzero}
+use Rattle.refusals.proofs.Refused.{ok_is, err_is, refusal_by}
 use Rattle.following.proofs.Following.{starts, ended, stopped, went_on}
+use Rattle.std.specs.Prelude.{Option}
+use Rattle.refusals.specs.declared.Refusal.{Refusal}
+use Rattle.std.specs.Result.{result_err}
+use Rattle.reporting.specs.Reporting.{standing}
 use Rattle.following.proofs.follow.Goals as goal
 
 pub loop-at-init : goal.loop-at-init
@@ -28,25 +32,24 @@ returns-in_default c =
     let turn = c.loop-at in
     let a = c.args in
     let m = memory_of turn.bench turn.numbers turn.data_ends turn.data_slots turn.pfc_ends turn.pfc_slots in
-    let said = c.step-said.ensures in
-    let number = c.number_of in
-    stopped a.watch a.input.now turn.at turn.steps m turn.invariant.1 turn.invariant.2 turn.invariant.0 _ c.loop-at-test.true
-    (number.ensures ∙ said.0) _ _
-    (λ none. refused_nonzero _ _ (sym said.1 ∙ c.in_default.is) (sym (number.ensures ∙ said.0) ∙ none))
-    said.2
-    c.report_of.ensures
+    let told = c.in_default.ensures in
+    let refusal = c.err.ensures.value ∙ ap result_err (c.step-answer.ensures.answer ∙ sym told.answer) in
+    stopped a.watch a.input.now turn.at turn.steps m turn.invariant.1 turn.invariant.2 turn.invariant.0 _ c.loop-at-test.true refl _ _
+    c.in_default.field-0 (err_is _ _ told.answer).0 (refusal_by _ _ told.answer) told.memory
+    (c.report_of.ensures ∙
+    ap (λ (r : Option Refusal). standing a.watch.settings.enabled turn.bench c.step-answer.new.numbers turn.steps r (turn.steps + 1)) refusal)
 
 pub loop-at-preserved : goal.loop-at-preserved
 loop-at-preserved c =
     let turn = c.loop-at in
     let a = c.args in
     let m = memory_of turn.bench turn.numbers turn.data_ends turn.data_slots turn.pfc_ends turn.pfc_slots in
-    let said = c.step-said.ensures in
-    let kept = c.step-said.auto in (
+    let told = c.in-Ok.ensures in
+    let kept = c.step-answer.auto in (
       omega (arith, turn.invariant.0),
-      subst Lent (sym said.2) (step_lent m turn.invariant.1 a.watch _),
+      subst Lent (sym told.memory) (step_lent m turn.invariant.1 a.watch _),
       went_on a.watch a.input.now turn.at turn.steps m turn.invariant.1 turn.invariant.2 turn.invariant.0 _ c.loop-at-test.true
-          refl _ _ _ (accepted_zero _ (sym said.1 ∙ c.in-Accepted.is)) said.2 c.octet_at.ensures c.body_length.ensures.0,
+          refl _ _ _ (ok_is _ _ told.answer).0 told.memory c.octet_at.ensures c.body_length.ensures.0,
       kept.data_ends ∙ turn.invariant.3,
       kept.data_slots ∙ turn.invariant.4,
       kept.pfc_ends ∙ turn.invariant.5,

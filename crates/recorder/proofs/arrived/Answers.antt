@@ -11,6 +11,6 @@ pub returns-then-is_enabled : goal.returns-then-is_enabled
 unfolding arrived_with
 returns-then-is_enabled c =
     let a = c.args in
-    room_put (recorder_of a.numbers.now a.marks) a.priority a.clock.0 (λ (x : Room). arrived_in a.limits x a.length)
-    c.room_in.ensures c.arrived-room.ensures c.numbers_of.ensures c.with_mark.ensures
-    ∙ sym (pick_yes _ _ (sym c.if-is_enabled.ensures))
+    rw c.from-n.ensures (room_put (recorder_of a.numbers.now a.marks) a.priority a.clock.0 (λ (x : Room). arrived_in a.limits x a.length)
+    (rw c.from-n.ensures at c.room_in-before.ensures) c.arrived-room.ensures c.numbers_of.ensures c.with_mark.ensures
+    ∙ sym (pick_yes _ _ (sym c.if-is_enabled.ensures)))

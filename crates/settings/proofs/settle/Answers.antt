@@ -1,20 +1,23 @@
--- What `settle` answers once a room is kept, by the house's refusals. Assumes nothing.
-use Rattle.std.proofs.Common.{ℕ, eqb, eq-eqb, sym, ap, ◌∙◌}
-use borrow.Author.Tests.{ne_eqb}
-use Rattle.ground.proofs.Pick.{pick_yes, pick_no}
-use Rattle.settings.specs.declared.Settling.TheVariants.{Refused}
-use Rattle.settings.proofs.SettingsLaws.{promised}
-use Rattle.settings.proofs.Settled.{settled_by_house}
+-- What `settle` answers by the headroom layer's refusals and by the house's. Assumes nothing.
+use Rattle.settings.proofs.SettingsLaws.{told}
+use Rattle.settings.proofs.Settled.{settled_by_sum, settled_by_house, accepted}
 use Rattle.settings.proofs.settle.Goals as goal
 
-pub returns-then-number-ne0 : goal.returns-then-number-ne0
-returns-then-number-ne0 c =
-    let house = c.house_refusal-number in
-    let refused = ap (λ (k : ℕ). eqb k 0) (sym house.ensures) ∙ ne_eqb house.result 0 c.if-number-ne0.true in
-    promised _ (ap Refused house.ensures ∙ sym (settled_by_house c.args.s _ c.in-Room.ensures.1 ∙ pick_no _ _ refused))
+pub returns-in_err-kept-clause-answer : goal.returns-in_err-kept-clause-answer
+returns-in_err-kept-clause-answer c = settled_by_sum _ _ _ c.from_residual.ensures.1 c.in_err-kept.ensures.answer
 
-pub returns-else-number-ne0 : goal.returns-else-number-ne0
-returns-else-number-ne0 c =
-    let house = c.house_refusal-number in
-    let passed = ap (λ (k : ℕ). eqb k 0) (sym house.ensures) ∙ eq-eqb house.result 0 c.if-number-ne0.false in
-    promised _ (sym (settled_by_house c.args.s _ c.in-Room.ensures.1 ∙ pick_yes _ _ passed))
+pub returns-in_err-kept-clause-number : goal.returns-in_err-kept-clause-number
+returns-in_err-kept-clause-number c = told _ _ (returns-in_err-kept-clause-answer c)
+
+pub returns-in_err-house_refusal-clause-answer : goal.returns-in_err-house_refusal-clause-answer
+returns-in_err-house_refusal-clause-answer c =
+    settled_by_house _ _ c.in_ok-kept.ensures.answer _ _ c.from_residual-in_err-house_refusal.ensures.1 c.in_err-house_refusal.ensures
+
+pub returns-in_err-house_refusal-clause-number : goal.returns-in_err-house_refusal-clause-number
+returns-in_err-house_refusal-clause-number c = told _ _ (returns-in_err-house_refusal-clause-answer c)
+
+pub returns-clause-answer : goal.returns-clause-answer
+returns-clause-answer c = accepted _ _ c.in_ok-kept.ensures.answer c.in_ok-house_refusal.ensures
+
+pub returns-clause-number : goal.returns-clause-number
+returns-clause-number c = told _ _ (returns-clause-answer c)

@@ -8,5 +8,5 @@ use Rattle.taking_effect.proofs.read_first.Goals as goal
 pub returns-then-slots-lt-PFC_WIDTH : goal.returns-then-slots-lt-PFC_WIDTH
 returns-then-slots-lt-PFC_WIDTH c =
     let a = c.args in
-    c.read.ensures.1 ∙
+    c.read.ensures.answer ∙
     ap (λ (o : List ℕ). verdict o a.watch.settings.largest address_a) (sym (take_all 60 a.slots.now (omega (arith, c.if-slots-lt-PFC_WIDTH.true))))

@@ -1,8 +1,7 @@
 -- Arrays that lack the places are refused; else one record is answered on them. Assumes nothing.
-use Rattle.std.proofs.Common.{sym, ap}
+use Rattle.std.proofs.Common.{sym}
 use Rattle.bench_memory.specs.Memory.{memory_of, lane_fits}
 use Rattle.bench_memory.proofs.Stepping.{unfit_to_b, unfit_to_a, fit_lent, fit_answers}
-use Rattle.bench_state.specs.declared.Stepped.{Stepped}
 use Rattle.bench_steps.proofs.step.step.Goals as goal
 
 pub returns-then-not-fits : goal.returns-then-not-fits
@@ -10,18 +9,16 @@ unfolding lane_fits
 returns-then-not-fits c =
     let a = c.args in
     let m = memory_of a.bench a.numbers.now a.data_ends.now a.data_slots.now a.pfc_ends.now a.pfc_slots.now in
-    unfit_to_b a.watch m a.record.now (sym c.if-not-fits.ensures)
-    (ap (λ (x : Stepped). x.outcome) c.refused.ensures)
-    (ap (λ (x : Stepped). memory_of x.bench a.numbers.now a.data_ends.now a.data_slots.now a.pfc_ends.now a.pfc_slots.now) c.refused.ensures)
+    let is = unfit_to_b a.watch m a.record.now (sym c.if-not-fits.ensures) in
+    record { number = is.0; answer = is.1; memory = is.2 }
 
 pub returns-then-not-fits-2 : goal.returns-then-not-fits-2
 unfolding lane_fits
 returns-then-not-fits-2 c =
     let a = c.args in
     let m = memory_of a.bench a.numbers.now a.data_ends.now a.data_slots.now a.pfc_ends.now a.pfc_slots.now in
-    unfit_to_a a.watch m a.record.now (sym c.if-not-fits.ensures) (sym c.if-not-fits-2.ensures)
-    (ap (λ (x : Stepped). x.outcome) c.refused-then-not-fits-2.ensures)
-    (ap (λ (x : Stepped). memory_of x.bench a.numbers.now a.data_ends.now a.data_slots.now a.pfc_ends.now a.pfc_slots.now) c.refused-then-not-fits-2.ensures)
+    let is = unfit_to_a a.watch m a.record.now (sym c.if-not-fits.ensures) (sym c.if-not-fits-2.ensures) in
+    record { number = is.0; answer = is.1; memory = is.2 }
 
 pub asked-requires : goal.asked-requires
 unfolding lane_fits
@@ -35,4 +32,6 @@ unfolding lane_fits
 returns c =
     let a = c.args in
     let m = memory_of a.bench a.numbers.now a.data_ends.now a.data_slots.now a.pfc_ends.now a.pfc_slots.now in
-    fit_answers a.watch m a.record.now (fit_lent a.watch m a.record.now (sym c.if-not-fits.ensures) (sym c.if-not-fits-2.ensures)) c.asked.ensures
+    let lent = fit_lent a.watch m a.record.now (sym c.if-not-fits.ensures) (sym c.if-not-fits-2.ensures) in
+    let is = fit_answers a.watch m a.record.now lent c.asked.ensures in
+    record { number = is.0; answer = is.1; memory = is.2 }

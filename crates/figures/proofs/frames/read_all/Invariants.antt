@@ -2,5 +2,5 @@
 use Rattle.std.proofs.Common.{◌+◌, ◌≤◌, length}
 use Rattle.figures.proofs.frames.read_all.Given as goal
 
-abbrev pub invariant-loop-turn : goal.invariant-loop-turn
-invariant-loop-turn l = l.at + 128 ≤ length l.slots
+abbrev pub invariant-loop : goal.invariant-loop
+invariant-loop l = l.at + 128 ≤ length l.slots

@@ -2,8 +2,8 @@
 use Rattle.std.proofs.Common.{◌-◌, ◌≤◌, length}
 use Rattle.vectors.proofs.asked.after_row.Given as goal
 
-abbrev pub invariant-loop-now : goal.invariant-loop-now
-invariant-loop-now l = l.at ≤ length l.row
+abbrev pub invariant-loop-size : goal.invariant-loop-size
+invariant-loop-size l = l.at ≤ length l.row
 
-abbrev pub decreases-loop-now : goal.decreases-loop-now
-decreases-loop-now l = length l.row - l.at
+abbrev pub decreases-loop-size : goal.decreases-loop-size
+decreases-loop-size l = length l.row - l.at

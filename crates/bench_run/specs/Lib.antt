@@ -1,0 +1,2 @@
+-- What a report tells of a refusal.
+pub mod Told

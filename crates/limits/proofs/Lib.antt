@@ -1,0 +1,2 @@
+-- Laws about the limits.
+pub mod Decided

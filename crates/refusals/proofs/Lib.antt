@@ -1,0 +1,3 @@
+-- Laws of refusals, for every layer above.
+pub mod Decided
+pub mod Refused

@@ -1,0 +1,2 @@
+-- What contracts say of refusals.
+pub mod Refusals
