@@ -67,8 +67,33 @@ pub fn arrive(
     })
 }
 
+// The recorder's marks once the disk took octets.
+#[tactic(auto, unfolding(crate::specs::Arriving::taking_number, recorder::specs::Watching::taking_refusal))]
+fn taken(
+    watch: Watch,
+    bench: Bench,
+    numbers: &mut [[u64; 4]; 8],
+    priority: u8,
+    count: u16,
+) -> Result<Marks, Refusal>
+    ensures number { number_of result ≡ taking_number watch bench numbers.old priority count }
+    ensures answer { result ≡ refused_or (taking_number watch bench numbers.old priority count)
+        (taking_by watch bench numbers.old priority count).marks }
+    ensures rooms { numbers.new ≡ (taking_by watch bench numbers.old priority count).rooms }
+{
+    recorder::taken(
+        numbers,
+        bench.marks,
+        watch.settings.enabled,
+        recorder::limits_of(watch, priority),
+        priority,
+        u64::from(count),
+        bench.clock,
+    )
+}
+
 // Kind 07: B's disk takes octets.
-#[tactic(auto, unfolding(crate::specs::Arriving::taking_number, recorder::specs::Watching::taking_refusal, refusals::specs::Refusals::refused_or))]
+#[tactic(auto, unfolding(refusals::specs::Refusals::refused_or, ground::specs::Pick::pick))]
 pub fn take_octets(
     watch: Watch,
     bench: Bench,
@@ -81,17 +106,6 @@ pub fn take_octets(
         (taking_marks bench (taking_by watch bench numbers.old priority count)) }
     ensures rooms { numbers.new ≡ (taking_by watch bench numbers.old priority count).rooms }
 {
-    let marked = recorder::taken(
-        numbers,
-        bench.marks,
-        watch.settings.enabled,
-        recorder::limits_of(watch, priority),
-        priority,
-        u64::from(count),
-        bench.clock,
-    )?;
-    Ok(Bench {
-        marks: marked,
-        ..bench
-    })
+    let marks = taken(watch, bench, numbers, priority, count)?;
+    Ok(Bench { marks, ..bench })
 }
