@@ -16,10 +16,9 @@ fn number(page: &mut Page, word: &[u8], n: u64) {
 }
 
 fn first_line(page: &mut Page, report: Report) {
-    let refusal = report.refusal.map_or(0, |refusal| refusal.number());
     number(page, b"steps ", report.steps);
     number(page, b" time ", report.time.0);
-    number(page, b" refusal ", u64::from(refusal));
+    number(page, b" refusal ", u64::from(report.refusal));
     number(page, b" at ", report.at);
     page.put(b"\n");
 }
@@ -52,9 +51,7 @@ fn report_page(report: Report) -> Page {
 fn answer(rt: &HostRuntime, input: &[u8]) -> Result<(), Told> {
     let report = bench_run::run(input);
     console::output::write_page(rt, &mut rt.stdout(), b"bench", &report_page(report))?;
-    if let Some(refusal) = report.refusal {
-        meaning::tell(rt, refusal, report.at, input);
-    }
+    meaning::tell(rt, report.refusal, report.at, input);
     Ok(())
 }
 

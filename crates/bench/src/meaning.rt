@@ -1,6 +1,5 @@
 // What a refusal of a run means, in document 01's words, on standard error. Where a number stands for two things, the one that is met.
 use page::Page;
-use refusals::Refusal;
 
 // 14: the generation delay, or a path.
 fn delay(input: &[u8]) -> &'static [u8] {
@@ -29,40 +28,43 @@ fn settings(at: u64) -> &'static [u8] {
     }
 }
 
-// The refusals of the settings and of an input as a whole, then those of the records after the settings.
-fn words(refusal: Refusal, at: u64, input: &[u8]) -> &'static [u8] {
+// The refusals of the settings and of an input as a whole, then those of the records after the settings. (By number: so a report tells them.)
+fn words(refusal: u8, at: u64, input: &[u8]) -> &'static [u8] {
     match refusal {
-        Refusal::LargestFrame => b"M outside 64-9,216",
-        Refusal::Delay => delay(input),
-        Refusal::RoomSmall => b"an enabled room below headroom + M + hysteresis",
-        Refusal::PauseShort => b"64T < I + one-way time + 64",
-        Refusal::Refresh => b"I outside 1-4,194,304",
-        Refusal::RoomLarge => room(input),
-        Refusal::Settings => settings(at),
-        Refusal::InputLong => b"input too long",
-        Refusal::Kind => b"kind above 07",
-        Refusal::BodyShort => b"body cut short",
-        Refusal::PriorityAbove => b"priority above 7",
-        Refusal::Length => b"length outside 64-M",
-        Refusal::WireBusy => b"wire busy",
-        Refusal::Paused => b"priority paused at A",
-        Refusal::UnderWay => b"128 under way",
-        Refusal::NoneEnded => b"none whose wire time has ended",
-        Refusal::OtherLate => b"other frame later than G after PFC became due",
-        Refusal::NotDue => b"PFC not due",
-        Refusal::Overrun => b"a bound would be overrun",
-        Refusal::TimeAbove => b"time above 2^40",
-        Refusal::NotHeld => b"more than is held",
-        Refusal::NotEnabled => b"priority not enabled",
+        13 => b"M outside 64-9,216",
+        14 => delay(input),
+        15 => b"an enabled room below headroom + M + hysteresis",
+        16 => b"64T < I + one-way time + 64",
+        17 => b"I outside 1-4,194,304",
+        18 => room(input),
+        44 => settings(at),
+        45 => b"input too long",
+        30 => b"kind above 07",
+        31 => b"body cut short",
+        32 => b"priority above 7",
+        33 => b"length outside 64-M",
+        34 => b"wire busy",
+        35 => b"priority paused at A",
+        36 => b"128 under way",
+        37 => b"none whose wire time has ended",
+        38 => b"other frame later than G after PFC became due",
+        39 => b"PFC not due",
+        40 => b"a bound would be overrun",
+        41 => b"time above 2^40",
+        42 => b"more than is held",
+        43 => b"priority not enabled",
         _ => b"",
     }
 }
 
-// Says a refusal, the number of its record and what it means.
-pub(crate) fn tell(rt: &HostRuntime, refusal: Refusal, at: u64, input: &[u8]) {
+// Says a refusal, the number of its record and what it means; nothing where there is none.
+pub(crate) fn tell(rt: &HostRuntime, refusal: u8, at: u64, input: &[u8]) {
+    if refusal == 0 {
+        return;
+    }
     let mut line = Page::blank();
     line.put(b"refusal ");
-    line.number(u64::from(refusal.number()));
+    line.number(u64::from(refusal));
     line.put(b" at ");
     line.number(at);
     line.put(b": ");

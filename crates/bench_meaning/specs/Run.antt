@@ -1,10 +1,10 @@
 -- Document 01, "The bench": a run over a whole input. "The bench program reads records on standard input, at most 65,536 octets, stops
 -- at the first refusal and prints."
-use Rattle.std.specs.Prelude.{ℕ, zero, suc, ◌+◌, ◌*◌, Bool, true, not, List, [], ◌∷◌, Option, None, Some, Result, Ok, Err, length, drop, ltb, eqb}
+use Rattle.std.specs.Prelude.{ℕ, zero, suc, ◌+◌, ◌*◌, Bool, true, not, List, [], ◌∷◌, Result, Ok, Err, length, drop, ltb, eqb}
 use Rattle.ground.specs.Pick.{pick}
 use Rattle.ground.specs.Eight.{eight}
 use Rattle.ground.specs.First.{Condition, ◌gives◌, first_of}
-use Rattle.refusals.specs.Refusals.{numbered, refusal_if}
+use Rattle.refusals.specs.Refusals.{number}
 use Rattle.refusals.specs.declared.Refusal.{Refusal}
 use Rattle.octets.specs.Numbers.{octet_at, word_at, long_at}
 use Rattle.room_to_keep.specs.declared.Kept.{Kept}
@@ -33,7 +33,7 @@ settings_in octets =
     }
 
 -- "Line 1: records accepted after the settings, time, refusal or 0, its record number"; then what the other lines tell of each priority
-abbrev pub report_of : ℕ → State → ℕ → Option Refusal → ℕ → Report
+abbrev pub report_of : ℕ → State → ℕ → ℕ → ℕ → Report
 report_of enabled s steps refusal at =
     record {
       steps = steps;
@@ -49,18 +49,18 @@ report_of enabled s steps refusal at =
 
 -- "If the settings are refused or missing, or the input is too long, line 1 stands alone with steps 0 and time 0, at 0.": no priority is
 -- enabled, so that no other line follows
-abbrev pub refused_report : Refusal → Report
-refused_report refusal = report_of 0 (empty_for 0) 0 (Some refusal) 0
+abbrev pub refused_report : ℕ → Report
+refused_report number = report_of 0 (empty_for 0) 0 number 0
 
 -- the records of the octets from a state on, the first refused one ending the run; fuel: at most as many records as octets
 unfoldable pub run_from : ℕ → Watch → State → ℕ → List ℕ → Report
 unfolding pick
-run_from zero w s steps octets = report_of w.settings.enabled s steps None 0
-run_from (suc fuel) w s steps [] = report_of w.settings.enabled s steps None 0
+run_from zero w s steps octets = report_of w.settings.enabled s steps 0 0
+run_from (suc fuel) w s steps [] = report_of w.settings.enabled s steps 0 0
 run_from (suc fuel) w s steps (kind ∷ rest) =
     pick (eqb (refusal_of w s (decoded (kind ∷ rest))) 0)
     (run_from fuel w (next_of w s (decoded (kind ∷ rest))) (steps + 1) (drop (record_length kind) (kind ∷ rest)))
-    (report_of w.settings.enabled s steps (refusal_if (refusal_of w s (decoded (kind ∷ rest)))) (steps + 1))
+    (report_of w.settings.enabled s steps (refusal_of w s (decoded (kind ∷ rest))) (steps + 1))
 
 -- the records after accepted settings, from the empty state
 abbrev pub follow_of : Watch → List ℕ → Report
@@ -84,7 +84,7 @@ watch_with s room = record { settings = s; kept = room }
 
 -- settings that are whole: refused, or followed by their records
 unfoldable pub settled_by : Result Kept Refusal → List ℕ → Report
-settled_by (Err refusal) input = refused_report refusal
+settled_by (Err refusal) input = refused_report (number refusal)
 settled_by (Ok room) input = follow_of (watch_with (settings_in input) room) (drop 58 input)
 
 -- the settings of an input, tried, and what follows them
@@ -96,4 +96,4 @@ unfoldable pub run_of : List ℕ → Report
 run_of input =
     pick (eqb (input_refusal (octet_at input 0) (length input)) 0)
     (settled_of input)
-    (refused_report (numbered (input_refusal (octet_at input 0) (length input))))
+    (refused_report (input_refusal (octet_at input 0) (length input)))

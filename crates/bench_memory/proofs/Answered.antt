@@ -29,7 +29,7 @@ use Rattle.rows.specs.Rows.{Lane, seen, put}
 use Rattle.bench_meaning.specs.State.{Frame, State, data_octets, priority_of, length_of}
 use Rattle.bench_meaning.specs.Step.{after, address_a, pfc_now, effect_of, refusal_of, next_of}
 use Rattle.bench_meaning.specs.Step.{data_started, arrived, other_started, pfc_started, took_effect, octets_taken}
-use Rattle.bench_memory.specs.Memory.{Memory, memory_of, view_of, holding, data_width, pfc_width, Lent}
+use Rattle.bench_memory.specs.Memory.{Memory, memory_of, bench_of, view_of, holding, data_width, pfc_width, Lent}
 use Rattle.bench_memory.specs.Answers.{memory_for, Answers}
 use Rattle.bench_state.specs.Answered.{ended_in, bench_after, if_accepted}
 use Rattle.bench_state.specs.declared.Bench.{Bench}
@@ -51,6 +51,21 @@ module _ (w : Watch) (m : Memory) (asked : Asked) {number : ℕ} (is : number �
 -- an answer by a number: it bears that number, and is made of it
 abbrev pub Told : Result Bench Refusal → ℕ → Bench → Type 0
 Told answer number next = (number_of answer ≡ number) × (answer ≡ refused_or number next)
+
+-- what a step answers by a number, and the memory that it leaves
+module _ (w : Watch) (m : Memory) (asked : Asked) (number : ℕ) (answer : Result Bench Refusal) (then : Memory)
+    (is : number ≡ refusal_of w (view_of m) asked) (told : Told answer number (bench_of then)) where
+  answers_with : then ≡ memory_for w m asked → Answers w m asked answer then
+  answers_with memory =
+      record { number_is = told.0 ∙ is; answer_is = told.1 ∙ ap (λ (n : ℕ). refused_or n (bench_of then)) is; memory_is = memory }
+
+  -- a refused record: the memory as it was
+  pub refused_answers : (number ≡ 0 → ⊥) → then ≡ m → Answers w m asked answer then
+  refused_answers some same = answers_with (same ∙ memory_kept w m asked is some)
+
+  -- an accepted one: the memory that holds the next state
+  pub accepted_answers : number ≡ 0 → then ≡ holding m (next_of w (view_of m) asked) → Answers w m asked answer then
+  accepted_answers none holds_next = answers_with (holds_next ∙ memory_next w m asked is none)
 
 -- where each part is the next one if the record is accepted, and as it was if not, so is the memory
 module _ (w : Watch) (asked : Asked) (bench next : Bench) (r r' : List (List ℕ)) (e s p o e' s' p' o' : List ℕ) where

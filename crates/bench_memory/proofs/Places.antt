@@ -141,6 +141,14 @@ lent_fits width lane lent =
     le-leb width (length lane.slots / 128) (omega (arith, lent.slots))
 
 -- of both directions
+pub fitting_lent : (m : Memory) → fitting m ≡ true → Lent m
+unfolding fitting pick
+fitting_lent m = go (lane_fits data_width m.to_b) refl
+  where
+    go : (b : Bool) → lane_fits data_width m.to_b ≡ b → pick b (lane_fits pfc_width m.to_a) false ≡ true → Lent m
+    go true p e = record { to_b = lane_lent data_width m.to_b p; to_a = lane_lent pfc_width m.to_a e }
+    go false p e = absurd (false≢true e)
+
 pub lent_fitting : (m : Memory) → Lent m → fitting m ≡ true
 unfolding fitting
 lent_fitting m lent = pick_yes _ _ (lent_fits data_width m.to_b lent.to_b) ∙ lent_fits pfc_width m.to_a lent.to_a

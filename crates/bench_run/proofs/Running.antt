@@ -11,9 +11,9 @@ use Rattle.ground.specs.First.{GivenExactly, are_apart, is_among, test_at}
 use Rattle.ground.specs.Pick.{pick}
 use Rattle.ground.proofs.First.{first_given}
 use Rattle.ground.proofs.Pick.{pick_yes, pick_no}
-use Rattle.refusals.specs.Refusals.{numbered}
 pub use Rattle.refusals.specs.Refusals.{refused_or, numbered_in}
 use Rattle.refusals.specs.declared.Refusal.{Refusal}
+use Rattle.refusals.specs.Refusals.{number}
 use Rattle.refusals.proofs.Refused.{err_is, none_by}
 use Rattle.octets.specs.Numbers.{octet_at}
 use Rattle.room_to_keep.specs.declared.Kept.{Kept}
@@ -22,7 +22,7 @@ use Rattle.bench_meaning.specs.declared.Report.{Report}
 use Rattle.bench_meaning.specs.Run.{follow_of, settings_in, refused_report, watch_with, settled_by, settled_of, input_order, input_refusal, run_of}
 
 -- settings that are whole: what settling them says of the report
-pub settled_refused : (input : List ℕ) (refusal : Refusal) → settling (settings_in input) ≡ Err refusal → refused_report refusal ≡ settled_of input
+pub settled_refused : (input : List ℕ) (refusal : Refusal) → settling (settings_in input) ≡ Err refusal → refused_report (number refusal) ≡ settled_of input
 unfolding settled_by
 settled_refused input refusal is = sym (ap (λ (x : Result Kept Refusal). settled_by x input) is)
 
@@ -44,12 +44,12 @@ input_given kind size = first_given (input_order kind size) refl
 
 -- what a run answers by the input's refusal
 module _ (input : List ℕ) {given : ℕ} (is : given ≡ input_refusal (octet_at input 0) (length input)) where
-  pub run_refused : {refusal : Refusal} {report : Report} → Err refusal ≡ refused_or {A = ⊤} given tt → report ≡ refused_report refusal →
-      report ≡ run_of input
+  pub run_refused : {refusal : Refusal} {report : Report} → Err refusal ≡ refused_or {A = ⊤} given tt → number refusal ≡ given →
+      report ≡ refused_report (number refusal) → report ≡ run_of input
   unfolding run_of
-  run_refused refused_by told =
-      let by = err_is given tt refused_by in
-      told ∙ ap refused_report (by.1 ∙ ap numbered is) ∙ sym (pick_no _ _ (ap (λ (k : ℕ). eqb k 0) (sym is) ∙ ne_eqb given 0 by.0))
+  run_refused refused_by its told =
+      let some = (err_is given tt refused_by).0 in
+      told ∙ ap refused_report (its ∙ is) ∙ sym (pick_no _ _ (ap (λ (k : ℕ). eqb k 0) (sym is) ∙ ne_eqb given 0 some))
 
   pub run_settled : {report : Report} {passed : ⊤} → Ok passed ≡ refused_or given tt → report ≡ settled_of input → report ≡ run_of input
   unfolding run_of

@@ -1,5 +1,5 @@
--- What line 1 of a report tells: "refusal or 0". The number told of the refusal in a report is the one that an order gave, for an input and for
--- each record. Assumes nothing.
+-- What line 1 of a report tells: "refusal or 0". What is told of the refusal that a number stands for is that number, where an order gave it: for
+-- an input and for each record. Assumes nothing.
 use Prim.Native.Nat.{ℕ}
 use mathlib.Core.Path.{◌≡◌, refl, sym, ap, ◌∙◌}
 use mathlib.Core.Bool.{Bool, true, false}

@@ -1,2 +1,2 @@
--- What a report tells of a refusal.
+-- What is told of a refusal.
 pub mod Told

@@ -3,7 +3,7 @@
 
 ghost use Rattle.std.specs.Prelude.{◌≡◌, ◌≤◌, length};
 ghost use Rattle.ground.specs.First.{first_of};
-ghost use Rattle.refusals.specs.Refusals.{refused_or};
+ghost use Rattle.refusals.specs.Refusals.{number_of, refused_or};
 ghost use Rattle.bench_meaning.specs.Run.{settings_in, refused_report, is_missing, input_order, settled_of, run_of};
 
 use bench_meaning::Report;
@@ -45,13 +45,13 @@ fn settings_in(input: &[u8]) -> Settings
 }
 
 // The report where no settings were accepted: line 1 stands alone.
-fn refused_report(refusal: Refusal) -> Report
-    ensures { result ≡ refused_report refusal }
+fn refused_report(number: u8) -> Report
+    ensures { result ≡ refused_report number }
 {
     Report {
         steps: 0,
         time: OctetTimes(0),
-        refusal: Some(refusal),
+        refusal: number,
         at: 0,
         enabled: 0,
         held: [0u64; 8],
@@ -72,7 +72,8 @@ fn is_missing(kind: u8, size: usize) -> bool
 // 45, 44 and 31 of an input by its first octet and its length, in this order.
 #[tactic(auto, unfolding(crate::proofs::Running::refused_or, crate::proofs::Running::numbered_in, ground::specs::Pick::pick, ground::specs::First::first_of))]
 fn may_run(kind: u8, size: usize) -> Result<(), Refusal>
-    ensures { result ≡ refused_or (first_of (input_order kind size)) tt }
+    ensures number { number_of result ≡ first_of (input_order kind size) }
+    ensures answer { result ≡ refused_or (first_of (input_order kind size)) tt }
 {
     if MOST_INPUT < size {
         return Err(Refusal::InputLong);
@@ -95,7 +96,7 @@ fn settled(input: &[u8]) -> Report
     let settings = settings_in(input);
     match settings::settle(settings) {
         Ok(kept) => following::follow(Watch { settings, kept }, &input[58..]),
-        Err(refusal) => refused_report(refusal),
+        Err(refusal) => refused_report(refusal.number()),
     }
 }
 
@@ -104,7 +105,7 @@ pub fn run(input: &[u8]) -> Report
     ensures { result ≡ run_of input.now }
 {
     match may_run(octets::octet_at(input, 0), input.len()) {
-        Err(refusal) => refused_report(refusal),
+        Err(refusal) => refused_report(refusal.number()),
         Ok(()) => settled(input),
     }
 }

@@ -1,5 +1,5 @@
 -- Laws of the highest class of which a test holds, and of what iterators find: any of a list, the first from the highest down. Assumes nothing.
-use mathlib.Core.Path.{◌≡◌, refl, sym, ap, ◌∙◌}
+use mathlib.Core.Path.{◌≡◌, refl, sym, ap, subst, ◌∙◌}
 use mathlib.Core.Bool.{Bool, true, false, cond, ◌||◌}
 use mathlib.Core.List.{List, [], ◌∷◌, map}
 use lib.ListN.{length, get_or}
@@ -22,19 +22,26 @@ use Rattle.ground.proofs.Eight.{eight_of_list}
 use Prim.Native.Nat.{ℕ, zero, suc, ◌<◌}
 use native.Mathlib.Omega.{arith}
 use borrow.Author.Count.{below_more}
-use Rattle.std.specs.Prelude.{Option, Some, None}
+use Rattle.std.specs.Prelude.{Option, Some, None, Ok}
 use Rattle.ground.specs.Pick.{pick}
+use Rattle.refusals.specs.Refusals.{refused_or}
+use Rattle.refusals.proofs.Refused.{ok_is}
 use Rattle.choice.specs.Choice.{highest}
 
 -- the highest below a bound is the class under it, if the test holds there
-highest_here : (test : ℕ → Bool) (bound c : ℕ) → bound ≡ suc c → test c ≡ true → highest test bound ≡ Some c
+pub highest_here : (test : ℕ → Bool) (bound c : ℕ) → bound ≡ suc c → test c ≡ true → highest test bound ≡ Some c
 unfolding highest pick
 highest_here test bound c e h = rw e (simp h)
 
 -- else what is below that
-highest_below : (test : ℕ → Bool) (bound c : ℕ) → bound ≡ suc c → test c ≡ false → highest test bound ≡ highest test c
+pub highest_below : (test : ℕ → Bool) (bound c : ℕ) → bound ≡ suc c → test c ≡ false → highest test bound ≡ highest test c
 unfolding highest pick
 highest_below test bound c e h = rw e (simp h)
+
+-- and below zero none
+pub highest_none : (test : ℕ → Bool) (bound : ℕ) → bound ≡ 0 → highest test bound ≡ None
+unfolding highest
+highest_none test bound e = rw e
 
 -- the highest below a bound of which a test holds, or none
 pub data Highest (test : ℕ → Bool) (bound : ℕ) : Option ℕ → Type 0 where
@@ -54,6 +61,10 @@ highest_right test (suc n) = by_value (test n) refl (highest_right test n)
     by_value : (value : Bool) → test n ≡ value → Highest test n (highest test n) → Highest test (suc n) (highest test (suc n))
     by_value true h rest = rw (highest_here test (suc n) n refl h) (found n (omega arith) h (λ d p q. absurd (omega arith)))
     by_value false h rest = rw (highest_below test (suc n) n refl h) (raised test n h rest)
+
+-- by a number: an answer that is not refused is the highest of the eight
+pub chosen_right : (number : ℕ) (test : ℕ → Bool) {answer : Option ℕ} → refused_or number (highest test 8) ≡ Ok answer → Highest test 8 answer
+chosen_right number test is = subst (Highest test 8) (sym (ok_is number (highest test 8) (sym is)).1) (highest_right test 8)
 
 -- a test holds of some of a list where it holds of any
 pub any_is_some : (test : ℕ → Bool) (list : List ℕ) → list_any test list ≡ some (map test list)

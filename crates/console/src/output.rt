@@ -6,16 +6,21 @@ use page::Page;
 use remarks::Told;
 use std::io::Write;
 
-// Writes all of these octets. A write that fails is told on standard error, behind the program's name. An interrupted write is tried again;
-// one that takes nothing, which no file should do, counts as an error of the device.
+// Writes all of these octets where all before them were written. A write that fails is told on standard error, behind the program's name;
+// after it nothing more is written. An interrupted write is tried again; one that takes nothing, which no file should do, counts as an error of
+// the device.
 pub fn write<W: Write>(
     rt: &HostRuntime,
     output: &mut W,
     name: &[u8],
+    before: Result<(), Told>,
     octets: &[u8],
 ) -> Result<(), Told>
-    ensures { OnOk result (Appends (W.contents output.old) (W.contents output.new) octets.now) }
+    ensures stopped { IsErr before → IsErr result }
+    ensures kept { IsErr before → Keeps (W.contents output.old) (W.contents output.new) }
+    ensures written { OnOk result (Appends (W.contents output.old) (W.contents output.new) octets.now) }
 {
+    before?;
     let what = b": no whole report, since standard output could not be written: error ";
     remarks::tell(rt, name, what, output.write_all(octets))
 }
@@ -40,7 +45,7 @@ pub fn write_page<W: Write>(
     ensures written { OnOk result (Appends (W.contents output.old) (W.contents output.new) page.now.octets) }
 {
     match page.written() {
-        Some(octets) => write(rt, output, name, octets),
+        Some(octets) => write(rt, output, name, Ok(()), octets),
         None => Err(overfull(rt, name)),
     }
 }

@@ -5,7 +5,7 @@ use crate::turns;
 use frame::Request;
 use refusals::Refusal;
 
-// (One by one: a fold over the eight cost 35 instructions a frame more, a third of what reading costs.)
+// (One by one: a fold over the eight cost 35 instructions a frame more, two thirds of what reading costs.)
 fn asks(asked: Request) -> u64 {
     let low = turns::add(
         u64::from(asked.times[0]),

@@ -8,14 +8,11 @@ use native.Mathlib.Omega.{arith}
 use native.Mathlib.Nat.{add-zero, add_assoc}
 use lib.ListN.{length, get_or, take, drop, length-drop}
 use lib.Seq.{drop-drop, get_or-drop}
-use Rattle.std.specs.Prelude.{Option, None, Some}
 use borrow.Author.Tests.{eq-eqb, ne_eqb}
 use Rattle.ground.specs.Pick.{pick}
 use Rattle.ground.specs.Eight.{eight}
 use Rattle.ground.proofs.Parts.{take_rest}
 use Rattle.ground.proofs.Pick.{pick_yes, pick_no}
-use Rattle.refusals.specs.Refusals.{refusal_if}
-use Rattle.refusals.specs.declared.Refusal.{Refusal}
 use Rattle.octets.specs.Numbers.{octet_at}
 use Rattle.rooms.specs.Room.{empty_room, numbers_of}
 use Rattle.recorder.specs.Watching.{recorder_of}
@@ -40,13 +37,13 @@ run_on fuel w s steps [] some accepted = absurd (omega arith)
 run_on fuel w s steps (kind ∷ rest) some accepted = pick_yes _ _ (eq-eqb (refusal_of w s (decoded (kind ∷ rest))) 0 accepted)
 
 run_stops : (fuel : ℕ) (w : Watch) (s : State) (steps : ℕ) (octets : List ℕ) → 1 ≤ length octets → (refusal_of w s (decoded octets) ≡ 0 → ⊥) →
-    run_from (suc fuel) w s steps octets ≡ report_of w.settings.enabled s steps (refusal_if (refusal_of w s (decoded octets))) (steps + 1)
+    run_from (suc fuel) w s steps octets ≡ report_of w.settings.enabled s steps (refusal_of w s (decoded octets)) (steps + 1)
 unfolding run_from
 run_stops fuel w s steps [] some refused = absurd (omega arith)
 run_stops fuel w s steps (kind ∷ rest) some refused = pick_no _ _ (ne_eqb (refusal_of w s (decoded (kind ∷ rest))) 0 refused)
 
 run_ends : (fuel : ℕ) (w : Watch) (s : State) (steps : ℕ) (octets : List ℕ) → length octets ≡ 0 →
-    run_from fuel w s steps octets ≡ report_of w.settings.enabled s steps None 0
+    run_from fuel w s steps octets ≡ report_of w.settings.enabled s steps 0 0
 unfolding run_from
 run_ends zero w s steps octets none = refl
 run_ends (suc fuel) w s steps [] none = refl
@@ -64,16 +61,15 @@ stayed w m octets refused = go (fitting m)
 -- the loop of a run, at a place of the octets
 module _ (w : Watch) (octets : List ℕ) where
   -- the report of a memory whose rooms hold these numbers: the frames under way are not in it
-  abbrev pub Told : Memory → List (List ℕ) → ℕ → Option Refusal → ℕ → Report
-  Told m rooms steps refusal at =
+  abbrev pub Told : Memory → List (List ℕ) → ℕ → ℕ → ℕ → Report
+  Told m rooms steps number at =
       report_of w.settings.enabled
       (record { clock = m.clock; head = m.head; recorder = recorder_of rooms m.marks; to_b = idle; to_a = idle })
-      steps refusal at
+      steps number at
 
-  told_is : (m : Memory) (steps : ℕ) (refusal : Option Refusal) (at : ℕ) →
-      Told m m.rooms steps refusal at ≡ report_of w.settings.enabled (view_of m) steps refusal at
+  told_is : (m : Memory) (steps number at : ℕ) → Told m m.rooms steps number at ≡ report_of w.settings.enabled (view_of m) steps number at
   unfolding view_of
-  told_is m steps refusal at = refl
+  told_is m steps number at = refl
 
   -- what is left, run from where a memory stands, gives the answer
   abbrev pub Ran : ℕ → ℕ → Memory → Type 0
@@ -90,9 +86,9 @@ module _ (w : Watch) (octets : List ℕ) where
 
   module _ (at steps : ℕ) (m : Memory) (lent : Lent m) (ran : Ran at steps m) (behind : steps ≤ at) where
     -- no octets are left
-    pub ended : (said : Report) → length octets ≤ at → said ≡ Told m m.rooms steps None 0 → said ≡ follow_of w octets
+    pub ended : (said : Report) → length octets ≤ at → said ≡ Told m m.rooms steps 0 0 → said ≡ follow_of w octets
     ended said past is =
-        is ∙ told_is m steps None 0 ∙ sym (ran ∙ run_ends (length octets - steps) w (view_of m) steps (drop at octets) (omega (arith, length-drop at octets)))
+        is ∙ told_is m steps 0 0 ∙ sym (ran ∙ run_ends (length octets - steps) w (view_of m) steps (drop at octets) (omega (arith, length-drop at octets)))
 
     module _ (number : ℕ) (before : at < length octets) (is_number : number ≡ step_number w m (take (length octets - at) (drop at octets))) where
       number_here : number ≡ refusal_of w (view_of m) (decoded (drop at octets))
@@ -106,16 +102,15 @@ module _ (w : Watch) (octets : List ℕ) where
       some_left = omega (arith, length-drop at octets)
 
       -- the record is refused: the rooms are as they were
-      pub stopped : (said : Report) (then : Memory) (refusal : Refusal) → (number ≡ 0 → ⊥) → Some refusal ≡ refusal_if number →
-          then ≡ step_memory w m (take (length octets - at) (drop at octets)) →
-          said ≡ Told m then.rooms steps (Some refusal) (steps + 1) → said ≡ follow_of w octets
-      stopped said then refusal refused is_refusal is_then is =
+      pub stopped : (said : Report) (then : Memory) → (number ≡ 0 → ⊥) → then ≡ step_memory w m (take (length octets - at) (drop at octets)) →
+          said ≡ Told m then.rooms steps number (steps + 1) → said ≡ follow_of w octets
+      stopped said then refused is_then is =
           let same : then ≡ m =
           is_then ∙ ap (step_memory w m) (take_rest at octets) ∙ stayed w m (drop at octets) (λ e. refused (number_here ∙ e)) in
           is ∙
-          ap (λ (x : Memory). Told m x.rooms steps (Some refusal) (steps + 1)) same ∙
-          told_is m steps (Some refusal) (steps + 1) ∙
-          ap (λ (r : Option Refusal). report_of w.settings.enabled (view_of m) steps r (steps + 1)) (is_refusal ∙ ap refusal_if number_here) ∙
+          ap (λ (x : Memory). Told m x.rooms steps number (steps + 1)) same ∙
+          told_is m steps number (steps + 1) ∙
+          ap (λ (k : ℕ). report_of w.settings.enabled (view_of m) steps k (steps + 1)) number_here ∙
           sym
           (ran ∙
           ap (λ (k : ℕ). run_from k w (view_of m) steps (drop at octets)) fuel ∙

@@ -60,7 +60,7 @@ pub fn follow(watch: Watch, input: &[u8]) -> Report
                 bench,
                 numbers,
                 steps,
-                answer.err(),
+                refusals::number_told(answer.err()),
                 steps + 1,
             );
         };
@@ -68,5 +68,5 @@ pub fn follow(watch: Watch, input: &[u8]) -> Report
         at = at + 1 + records::body_length(octets::octet_at(input, at));
         steps = steps + 1;
     }
-    reporting::report_of(watch.settings.enabled, bench, numbers, steps, None, 0)
+    reporting::report_of(watch.settings.enabled, bench, numbers, steps, 0, 0)
 }

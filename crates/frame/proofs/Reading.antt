@@ -6,6 +6,7 @@ use mathlib.Core.List.{List, [], ◌∷◌}
 use native.Mathlib.Omega.{arith}
 use lib.Dec.{ltb, eqb}
 use lib.ListN.{length, get_or, drop, length-drop}
+use lib.Seq.{drop-length}
 use borrow.Author.Tests.{ltb-false}
 use Rattle.std.specs.Prelude.{Option, Some, None, Result, Ok, Err, IsErrAnd}
 use Rattle.ground.specs.Pick.{pick}
@@ -20,7 +21,7 @@ use Rattle.octets.specs.Numbers.{address_at}
 use Rattle.frame.specs.Layout.{destination, opcode, pfc_opcode}
 use Rattle.limits.specs.Limits.{refused13}
 use Rattle.frame.specs.Read.{is_accepted, is_control, is_elsewhere, is_other, order_by, reading_order}
-use Rattle.frame.specs.Read.{request_of, taken, verdict, part_for, part_of}
+use Rattle.frame.specs.Read.{request_of, request_in, taken, verdict, part_for, part_of}
 use Rattle.frame.specs.declared.Request.{Request}
 
 -- none of 13, 1 and 2: M and the frame's length are within their limits
@@ -96,6 +97,12 @@ module _ (frame : List ℕ) (M : ℕ) (own : List ℕ) where
       (λ i. first_of (sym u i gives 13 ∷ ltb (length frame) 60 gives 1 ∷ sym l i gives 2 ∷ [])) ∙ (ok_is _ (tt {0}) passed).0 in
       (λ i. first_of (elsewhere i gives 3 ∷ other i gives 4 ∷ [])) ∙ control_first _ _ _ _ _ size
 
+  -- what is taken, by whether it is a control frame
+  pub taken_by : {found : Option Request} {control : Bool} → control ≡ is_control frame → found ≡ pick control (Some (request_in frame)) None →
+      found ≡ taken frame
+  unfolding taken
+  taken_by control is = is ∙ ap (λ (b : Bool). pick b (Some (request_in frame)) None) control
+
 -- "Each is given exactly when its condition holds and none earlier in the order does": 13, 1, 2, 3, 4
 pub reading_given : (frame : List ℕ) (M : ℕ) (own : List ℕ) → GivenExactly (reading_order frame M own) (number_of (verdict frame M own))
 unfolding order_by are_apart is_among pick
@@ -105,6 +112,17 @@ reading_given frame M own = given_exactly (reading_order frame M own) refl (read
 pub data_is_sized : (frame : List ℕ) (M : ℕ) (own : List ℕ) → verdict frame M own ≡ Ok None → Sized (length frame) M
 data_is_sized frame M own is_data =
     sized (length frame) M (is_elsewhere (address_at own 0) frame) (is_other frame) (sym (read_number frame M own) ∙ ap number_of is_data)
+
+-- the part starts within the frame, and is what is left from there on
+pub part_within : (frame : List ℕ) (M : ℕ) (own : List ℕ) → (start : ℕ) × (start ≤ length frame) × (part_of frame M own ≡ drop start frame)
+unfolding part_for
+part_within frame M own = go (verdict frame M own) refl
+  where
+    go : (found : Result (Option Request) Refusal) → verdict frame M own ≡ found →
+        (start : ℕ) × (start ≤ length frame) × (part_for found frame ≡ drop start frame)
+    go (Ok None) is = (12, omega (arith, (data_is_sized frame M own is).whole), refl)
+    go (Ok (Some request)) is = (length frame, omega arith, sym (drop-length frame))
+    go (Err refusal) is = (length frame, omega arith, sym (drop-length frame))
 
 -- the part of data, of a request and of a refusal
 pub data_part : (frame : List ℕ) (M : ℕ) (own : List ℕ) → verdict frame M own ≡ Ok None → part_of frame M own ≡ drop 12 frame

@@ -8,16 +8,17 @@ use Rattle.ground.specs.Pick.{pick}
 use Rattle.ground.specs.First.{GivenExactly, are_apart, first_of, is_among}
 use Rattle.ground.proofs.First.{given_exactly}
 use Rattle.std.specs.Prelude.{Result, ⊤}
-use mathlib.Core.List.{List, ◌++◌, append_assoc}
+use mathlib.Core.List.{List, [], ◌∷◌, ◌++◌, append_assoc}
 use native.Mathlib.Omega.{arith}
-use lib.ListN.{length, drop}
+use lib.ListN.{length, drop, get_or}
 use lib.Seq.{take_at, drop_at}
 use borrow.Rule.Slice.PartMut.{put_mid}
+use Rattle.octets.specs.Numbers.{word_octets}
 use Rattle.refusals.specs.declared.Refusal.{Refusal}
 use Rattle.refusals.specs.Refusals.{number_of}
 pub use Rattle.refusals.specs.Refusals.{refused_or, numbered_in}
 use Rattle.refusals.proofs.Refused.{order_number}
-use Rattle.frame_build.specs.Build.{order_by, building_order, build_verdict, buffer_for, buffer_after}
+use Rattle.frame_build.specs.Build.{order_by, building_order, build_verdict, all_time_octets, buffer_for, buffer_after}
 
 -- where nothing is refused the buffer has room for the frame
 pub has_room : (size first : ℕ) → first_of (order_by size first) ≡ 0 → 60 ≤ size
@@ -46,6 +47,14 @@ module _ (size : ℕ) (source : List ℕ) where
 pub buffer_left : (source : List ℕ) (e : ℕ) (times buffer after : List ℕ) {answer : Result ⊤ Refusal} → answer ≡ build_verdict (length buffer) source →
     after ≡ buffer_for answer source e times buffer → after ≡ buffer_after source e times buffer
 buffer_left source e times buffer after is left = left ∙ ap (λ (found : Result ⊤ Refusal). buffer_for found source e times buffer) is
+
+-- eight times, two octets each
+pub times_joined : (times : List ℕ) {t0 t1 t2 t3 t4 t5 t6 t7 : List ℕ} →
+    t0 ≡ word_octets (get_or times 0 0) → t1 ≡ word_octets (get_or times 1 0) → t2 ≡ word_octets (get_or times 2 0) → t3 ≡ word_octets (get_or times 3 0) →
+    t4 ≡ word_octets (get_or times 4 0) → t5 ≡ word_octets (get_or times 5 0) → t6 ≡ word_octets (get_or times 6 0) → t7 ≡ word_octets (get_or times 7 0) →
+    (get_or t0 0 0 ∷ get_or t0 1 0 ∷ get_or t1 0 0 ∷ get_or t1 1 0 ∷ get_or t2 0 0 ∷ get_or t2 1 0 ∷ get_or t3 0 0 ∷ get_or t3 1 0 ∷
+    get_or t4 0 0 ∷ get_or t4 1 0 ∷ get_or t5 0 0 ∷ get_or t5 1 0 ∷ get_or t6 0 0 ∷ get_or t6 1 0 ∷ get_or t7 0 0 ∷ get_or t7 1 0 ∷ []) ≡ all_time_octets times
+times_joined times p0 p1 p2 p3 p4 p5 p6 p7 = rw (p0, p1, p2, p3, p4, p5, p6, p7)
 
 -- the times put after the lead, in the place of 16 of the octets there
 pub parts_joined : (lead times rest : List ℕ) → length lead ≡ 18 → put_mid 18 16 (lead ++ rest) times ≡ lead ++ times ++ drop 16 rest

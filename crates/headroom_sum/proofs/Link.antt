@@ -1,9 +1,12 @@
 -- Laws of the link's bits: all that any other file knows of them. For link_bits and its callers, and for a site that has a figure from
 -- before L1. Assumes nothing.
-use Prim.Native.Nat.{ℕ, ◌+◌, ◌-◌, ◌*◌, ◌/◌, ◌≤◌, ◌<◌}
-use native.Mathlib.Nat.{mul-le-mul_left, mul-le-mul_right, div-lt_iff_lt-mul, lt-div-mul-add, div-mul-le_self}
+use Prim.Native.Nat.{ℕ, ◌+◌, ◌-◌, ◌*◌, ◌/◌, ◌^◌, ◌≤◌, ◌<◌}
+use native.Mathlib.Nat.{mul-le-mul, mul-le-mul_left, mul-le-mul_right, div-lt_iff_lt-mul, lt-div-mul-add, div-mul-le_self}
 use native.Mathlib.Omega.{arith}
+use Rattle.limits.specs.Limits.{largest_path}
 use Rattle.headroom_sum.specs.Link.{rounded_up, link_bits, link_bits_before, light_speed}
+use Rattle.headroom_sum.specs.Rates.{largest_rate}
+use Rattle.headroom_sum.specs.Headroom.{largest_metres, least_percentage}
 
 -- a quotient rounded up is the least that covers the count
 pub rounded_up_lem : (count parts : ℕ) → 0 < parts → (count ≤ rounded_up count parts * parts) × (rounded_up count parts * parts < count + parts)
@@ -27,6 +30,23 @@ module _ (metres rate : ℕ) {percentage : ℕ} (h : 0 < percentage) where
   pub link_least : {most : ℕ} → metres * rate * 100000000 ≤ most * (percentage * light_speed) → link_bits metres rate percentage ≤ most
   unfolding link_bits
   link_least = rounded_up_least _ _ (omega arith)
+
+module _ (metres rate percentage : ℕ) (m : metres ≤ largest_metres) (r : rate ≤ largest_rate) (p : least_percentage ≤ percentage) where
+  -- the products under the quotient, with any factor up to 100,000,000, are within what 64 bits hold
+  pub product_small : metres * rate ≤ largest_metres * largest_rate
+  product_small = mul-le-mul m r
+
+  pub sum_small : {by more : ℕ} → by ≤ 100000000 → more < 100000000 * light_speed → metres * rate * by + more < 2 ^ 64
+  sum_small {by} small few =
+      let product : metres * rate * by ≤ largest_metres * largest_rate * 100000000 = mul-le-mul product_small small
+      in omega arith
+
+  pub scaled_small : {by : ℕ} → by ≤ 100000000 → metres * rate * by < 2 ^ 64
+  scaled_small {by} small = omega (arith, sum_small {by = by} {more = 0} small (omega arith))
+
+  -- the link's bits at the inputs that 10, 11 and 12 let through: no more than a path may have
+  pub link_small : link_bits metres rate percentage ≤ largest_path
+  link_small = link_least metres rate (omega arith) (omega (arith, product_small))
 
 -- more metres hold no fewer bits
 pub rises_with_metres : {metres more : ℕ} (rate percentage : ℕ) → 0 < percentage → metres ≤ more →

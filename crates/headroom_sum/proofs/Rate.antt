@@ -1,6 +1,6 @@
 -- Laws of the rates and their halt limits, for the callers of `halt_limit`. Assumes nothing.
 use Prim.Native.Nat.{ℕ, ◌≤◌}
-use mathlib.Core.Path.{◌≡◌, refl, ap, ◌∙◌}
+use mathlib.Core.Path.{◌≡◌, refl, sym, ap, ◌∙◌}
 use mathlib.Core.Bool.{Bool, true, false}
 use mathlib.Core.List.{[], ◌∷◌, map}
 use native.Mathlib.Omega.{arith}
@@ -17,6 +17,10 @@ use Rattle.units.specs.declared.Quanta.{Quanta}
 use Rattle.units.specs.Units.{bits_of_quanta, within64}
 use Rattle.units.specs.Counts.{quanta}
 use Rattle.headroom_sum.specs.Rates.{halt_limits, largest_rate, halt_limit, refused10, limit_order, limit_answer}
+
+-- the answer at a number that is known
+pub at_rate : (rate known : ℕ) → rate ≡ known → limit_answer known ≡ limit_answer rate
+at_rate rate known e = ap limit_answer (sym e)
 
 -- for `halt_limit`: its answer at a number that has a limit, and at one that has none
 module _ (rate limit : ℕ) (is : halt_limit rate ≡ limit) (some : eqb limit 0 ≡ false) where

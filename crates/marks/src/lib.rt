@@ -37,11 +37,11 @@ pub fn with_mark(marks: Marks, priority: u8, wanted: bool, clock: OctetTimes) ->
     ensures { result ≡ with_mark marks priority wanted clock.0 }
 {
     let n = usize::from(priority);
-    let Some(was) = marks.wanted.get(n) else {
+    let mut marked = marks.wanted;
+    let Some(was) = marked.get(n).copied() else {
         return marks;
     };
-    let due = moments::due_on(*was != wanted, clock, marks.due);
-    let mut marked = marks.wanted;
+    let due = moments::due_on(was != wanted, clock, marks.due);
     marked[n] = wanted;
     Marks {
         wanted: marked,

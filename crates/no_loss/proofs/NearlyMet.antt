@@ -9,7 +9,7 @@ use mathlib.Core.Path.{◌≡◌, refl}
 use mathlib.Core.List.{List, [], ◌∷◌, ◌++◌}
 use native.Mathlib.Omega.{arith}
 use lib.ListN.{get_or}
-use Rattle.std.specs.Prelude.{None, Ok}
+use Rattle.std.specs.Prelude.{Ok}
 use Rattle.refusals.specs.Refusals.{refused_or}
 use Rattle.ground.specs.First.{first_of}
 use Rattle.ground.specs.Pick.{pick}
@@ -108,7 +108,7 @@ full_input =
     1 ∷ 7 ∷ 228 ∷ 3 ∷ 1 ∷ 7 ∷ 228 ∷ 3 ∷ []
 
 -- the program accepts all of them, and reports that worst for priority 3, which is enabled
-pub nearly_met_in_a_run : (get_or (run_of full_input).worst 3 0 ≡ 15619) × ((run_of full_input).steps ≡ 40) × ((run_of full_input).refusal ≡ None) ×
+pub nearly_met_in_a_run : (get_or (run_of full_input).worst 3 0 ≡ 15619) × ((run_of full_input).steps ≡ 40) × ((run_of full_input).refusal ≡ 0) ×
     (is_enabled (run_of full_input).enabled 3 ≡ true)
 unfolding run_of settled_by input_refusal is_missing is_repeated first_of settling some_enabled
     run_from decoded refused_or body_of body_length sized_refusal steps

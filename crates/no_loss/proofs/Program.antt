@@ -12,8 +12,7 @@ use native.Mathlib.Omega.{arith}
 use borrow.Author.Tests.{eqb-true}
 use lib.Dec.{eqb}
 use lib.ListN.{length, get_or, drop}
-use Rattle.std.specs.Prelude.{Option, None, Ok, Err}
-use Rattle.refusals.specs.declared.Refusal.{Refusal}
+use Rattle.std.specs.Prelude.{Ok, Err}
 use Rattle.ground.specs.Pick.{pick}
 use Rattle.ground.specs.Eight.{eight}
 use Rattle.ground.proofs.Pick.{pick_yes}
@@ -50,8 +49,7 @@ record TellsOf (w : Watch) (s : State) (steps : ℕ) (records : List Asked) (rep
   counts : CountsOf report (after w s records)
 
 -- where a run ends it takes no more records
-ended : (w : Watch) (s : State) (steps : ℕ) (refusal : Option Refusal) (at : ℕ) →
-    TellsOf w s steps [] (report_of w.settings.enabled s steps refusal at)
+ended : (w : Watch) (s : State) (steps refusal at : ℕ) → TellsOf w s steps [] (report_of w.settings.enabled s steps refusal at)
 unfolding after AllAccepted
 ended w s steps refusal at =
     record { enabled_is = refl; steps_are = omega arith; none_refused = tt; counts = record { held = refl; dropped = refl; worst = refl } }
@@ -75,8 +73,8 @@ one_more w s steps asked true records follows ends e same then =
 run_accepts : (fuel : ℕ) (w : Watch) (s : State) (steps : ℕ) (octets : List ℕ) →
     TellsOf w s steps (accepted_from fuel w s octets) (run_from fuel w s steps octets)
 unfolding run_from accepted_from
-run_accepts zero w s steps octets = ended w s steps None 0
-run_accepts (suc fuel) w s steps [] = ended w s steps None 0
+run_accepts zero w s steps octets = ended w s steps 0 0
+run_accepts (suc fuel) w s steps [] = ended w s steps 0 0
 run_accepts (suc fuel) w s steps (kind ∷ rest) =
     one_more w s steps (decoded (kind ∷ rest)) _ _ _ _ refl (ended w s steps _ _)
     (run_accepts fuel w (next_of w s (decoded (kind ∷ rest))) (steps + 1) (drop (record_length kind) (kind ∷ rest)))
@@ -113,9 +111,9 @@ follow_keeps s accepted fits octets =
     }
 
 -- a run that does not begin reports no record and no priority
-begins_not : (s : Settings) (refusal : Refusal) → LosesNothing s 0 [] (refused_report refusal)
+begins_not : (s : Settings) (number : ℕ) → LosesNothing s 0 [] (refused_report number)
 unfolding AllAccepted
-begins_not s refusal =
+begins_not s number =
     record { enabled_is = refl; steps_are = refl; none_refused = tt; keeps = λ priority on. absurd (none_enabled priority on) }
 
 -- 45, 44 or 31; else the settings decide
@@ -129,7 +127,7 @@ nothing_lost_in_a_run input octets = go (eqb (input_refusal (octet_at input 0) (
     go : (whole accepted : Bool) → eqb (settings_refusal s) 0 ≡ accepted →
         LosesNothing s (pick (pick whole accepted false) s.enabled 0) (pick (pick whole accepted false) (accepted_after s (drop 58 input)) [])
         (pick whole (settled_by (pick accepted (Ok (watch_of s).kept) (Err (numbered (settings_refusal s)))) input)
-        (refused_report (numbered (input_refusal (octet_at input 0) (length input)))))
+        (refused_report (input_refusal (octet_at input 0) (length input))))
     go false accepted e = begins_not s _
     go true false e = begins_not s _
     go true true e = follow_keeps s (eqb-true _ _ e) (omega (arith, octets 16, octets 17)) (drop 58 input)

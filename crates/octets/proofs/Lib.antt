@@ -2,3 +2,4 @@
 pub mod BitLaws
 pub mod Decided
 pub mod Gathered
+pub mod NumberLaws

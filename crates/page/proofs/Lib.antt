@@ -1,3 +1,4 @@
 -- The laws and the proofs of this crate.
 pub mod Decided
 pub mod Digits
+mod Rest

@@ -1,5 +1,5 @@
 -- What is on a page of octets that is filled before it is written, and what putting words and numbers on it gives.
-use Rattle.std.specs.Prelude.{ℕ, ◌+◌, ◌≡◌, Bool, true, false, not, nat_le, ◌&&◌, if◌then◌else◌, List, [], ◌++◌, length}
+use Rattle.std.specs.Prelude.{ℕ, ◌+◌, ◌-◌, ◌≤◌, ◌≡◌, Bool, true, false, not, nat_le, ◌&&◌, if◌then◌else◌, List, [], ◌++◌, length, drop, replicate}
 use Rattle.std.specs.Fmt.{decimal}
 use Rattle.page.specs.Digits.{last_digits, IsDigitCount}
 
@@ -7,6 +7,10 @@ use Rattle.page.specs.Digits.{last_digits, IsDigitCount}
 pub record Content : Type 0 where
   pub octets : List ℕ
   pub is_overfull : Bool
+
+-- what a page's fields hold: of 8192 octets so many are used, and those behind them are 0
+abbrev pub IsFilled : ℕ → List ℕ → Type 0
+IsFilled used octets = (used ≤ 8192) × (length octets ≡ 8192) × (drop used octets ≡ replicate (8192 - used) 0)
 
 -- a page with nothing on it
 abbrev pub blank_page : Content

@@ -8,24 +8,40 @@ ghost use Rattle.page.specs.Page.{blank_page, put_on, NumberPut};
 use itoa::Buffer;
 use std::marker::Model;
 
-// The octets on a page are its first, as many as are used.
-#[derive(Drop)]
+// The octets on a page are its first, as many as are used; those behind them are 0.
+#[derive(Clone, Copy)]
 pub struct Page {
     octets: [u8; 8192],
     used: usize,
     is_overfull: bool,
 }
 
-// A contract sees what is on a page, and whether it is overfull.
+// A contract sees what is on a page, and whether it is overfull. That gives the fields back, since 0 stands behind what is on it: a page
+// may be copied.
 impl Model for Page {
-    ghost use Rattle.std.specs.Prelude.{◌≤◌, take};
-    ghost use Rattle.page.specs.Page.{Content};
+    ghost use Rattle.std.specs.Prelude.{◌≤◌, ◌-◌, ◌++◌, length, take, replicate};
+    ghost use Rattle.std.proofs.Common.{ap, sym, subst, ◌∙◌, take-append-drop, length-take-le};
+    ghost use Rattle.page.specs.Page.{Content, IsFilled};
 
     ghost Value = { Content };
 
     ghost view = { λ page. record { octets = take page.used page.octets; is_overfull = page.is_overfull } };
 
-    ghost invariant = { λ page. page.used ≤ 8192 };
+    ghost invariant = { λ page. IsFilled page.used page.octets };
+
+    ghost inverse = { λ content. record {
+      octets = content.octets ++ replicate (8192 - length content.octets) 0;
+      used = length content.octets;
+      is_overfull = content.is_overfull;
+    } };
+
+    ghost inverse_ok = { λ page filled i.
+        let used_again = length-take-le page.used page.octets (subst (λ size. page.used ≤ size) (sym filled.1) filled.0) in record {
+          octets = (ap (λ used. take page.used page.octets ++ replicate (8192 - used) 0) used_again
+              ∙ ap (λ behind. take page.used page.octets ++ behind) (sym filled.2) ∙ take-append-drop page.used page.octets) i;
+          used = used_again i;
+          is_overfull = page.is_overfull;
+        } };
 }
 
 impl Page {

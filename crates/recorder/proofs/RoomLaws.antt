@@ -9,16 +9,18 @@ use borrow.Author.Tests.{eqb-true, eqb-false}
 use lib.Dec.{eqb}
 use lib.ListN.{length, length-set}
 use lib.Seq.{get_or-set_same, get_or-set_other}
+use Rattle.ground.specs.Pick.{pick}
 use Rattle.ground.proofs.Eight.{get_d_eight}
 use Rattle.marks.specs.Marks.{with_mark}
 use Rattle.rooms.specs.Room.{empty_room, room_in, numbers_of}
 use Rattle.rooms.specs.RoomRun.{Marked}
+use Rattle.rooms.specs.declared.Limits.{Limits}
 use Rattle.rooms.specs.declared.Room.{Room}
 use Rattle.room_to_keep.specs.declared.Kept.{Kept}
 use Rattle.settings.specs.Settings.{headroom_of, settings_refusal}
 use Rattle.settings.proofs.Settled.{kept_for}
 use Rattle.settings.proofs.SettingsLaws.{accepted_facts}
-use Rattle.recorder.specs.Watching.{Recorder, fresh, room_at, limits_of, with_room}
+use Rattle.recorder.specs.Watching.{Recorder, fresh, room_at, limits_of, with_room, arrived_with, taken_with, leaves_with}
 use Rattle.recorder.specs.declared.Watch.{Watch}
 
 -- a room and a mark for each of the eight priorities
@@ -49,6 +51,22 @@ module _ (r : Recorder) (priority : ℕ) (room : Room) (clock : ℕ) where
       let numbers = get_or-set_other r.rooms priority other (numbers_of room) [] apart in
       let marked = get_or-set_other r.marks.wanted priority other room.wanted false apart in
       λ i. room_in (numbers i) (marked i)
+
+-- an arrival and a taking keep the eight
+either : (test : Bool) {one other : Recorder} → EightRooms one → EightRooms other → EightRooms (pick test one other)
+unfolding pick
+either true one other = one
+either false one other = other
+
+pub eight_arrived : (enabled : ℕ) (limits : Limits) (r : Recorder) (priority length clock : ℕ) → EightRooms r →
+    EightRooms (arrived_with enabled limits r priority length clock)
+unfolding arrived_with
+eight_arrived enabled limits r priority length clock all = either _ (eight_put r priority _ clock all) all
+
+pub eight_left : (enabled : ℕ) (limits : Limits) (r : Recorder) (priority octets clock : ℕ) → EightRooms r →
+    EightRooms (leaves_with enabled limits r priority octets clock)
+unfolding leaves_with taken_with
+eight_left enabled limits r priority octets clock all = either _ (eight_put r priority _ clock all) all
 
 -- the marks of a watch whose sums are its settings' own: nothing is cut off
 pub marks_whole : (w : Watch) (priority : ℕ) → w.kept ≡ kept_for w.settings → settings_refusal w.settings ≡ 0 →

@@ -101,6 +101,11 @@ number_of (Err refusal) = number refusal
 unfoldable pub refusal_if : ℕ → Option Refusal
 refusal_if given = pick (eqb given 0) None (Some (numbered given))
 
+-- line 1 of a report: "refusal or 0": the number that is told of a refusal, if there is one
+abbrev pub number_told : Option Refusal → ℕ
+number_told None = 0
+number_told (Some refusal) = number refusal
+
 -- a number that an answer can have: 0, or that of a refusal
 abbrev pub is_number : ℕ → Bool
 is_number given = eqb given 0 || is_listed given refusals

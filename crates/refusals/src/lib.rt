@@ -2,7 +2,7 @@
 #![tactic(auto)]
 
 ghost use Rattle.std.specs.Prelude.{◌≡◌};
-ghost use Rattle.refusals.specs.Refusals.{number};
+ghost use Rattle.refusals.specs.Refusals.{number, number_told};
 
 // Document 01's refusals, each with its number there.
 #[derive(Clone, Copy, Debug, PartialEq, Eq)]
@@ -61,4 +61,11 @@ impl Refusal {
     {
         self as u8
     }
+}
+
+// What is told of a refusal, if there is one: its number, or 0.
+pub fn number_told(refusal: Option<Refusal>) -> u8
+    ensures { result ≡ number_told refusal }
+{
+    refusal.map_or(0, |refusal| refusal.number())
 }

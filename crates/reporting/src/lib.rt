@@ -7,7 +7,6 @@ ghost use Rattle.reporting.specs.Reporting.{standing};
 
 use bench_meaning::Report;
 use bench_state::Bench;
-use refusals::Refusal;
 
 // One of the four numbers of each room: 0 held, 1 dropped, 3 worst.
 fn column(numbers: [[u64; 4]; 8], k: usize) -> [u64; 8]
@@ -23,7 +22,7 @@ pub fn report_of(
     bench: Bench,
     numbers: [[u64; 4]; 8],
     steps: u64,
-    refusal: Option<Refusal>,
+    refusal: u8,
     at: u64,
 ) -> Report
     ensures { result ≡ standing enabled bench numbers steps refusal at }

@@ -1,5 +1,5 @@
 -- Laws of what `keep` answers, for its callers: what a room and a refusal say of the inputs. Assumes nothing.
-use Prim.Native.Nat.{ℕ, ◌≤◌}
+use Prim.Native.Nat.{ℕ, ◌+◌, ◌≤◌}
 use mathlib.Core.Path.{◌≡◌, refl, sym}
 use mathlib.Core.Bool.{Bool, true, false, false≢true}
 use mathlib.Core.List.{[], ◌∷◌}
@@ -14,8 +14,10 @@ use Rattle.ground.proofs.Passing.{neither}
 use Rattle.refusals.specs.Refusals.{refused_or}
 use Rattle.refusals.specs.declared.Refusal.{Refusal}
 use Rattle.refusals.proofs.Refused.{ok_is, err_is}
+use Rattle.units.specs.declared.OctetTimes.{OctetTimes}
+use Rattle.units.specs.Units.{octets_of_bits, wire_time}
 use Rattle.limits.specs.Limits.{least_m, largest_m, largest_delay, largest_path, refused13, delay_over, path_over}
-use Rattle.room_to_keep.specs.Keep.{refused14, keep_order, keep_refusal, kept, keeping}
+use Rattle.room_to_keep.specs.Keep.{one_way, refused14, keep_order, keep_refusal, kept, keeping}
 use Rattle.room_to_keep.specs.declared.Kept.{Kept}
 
 -- the bounds behind a room
@@ -77,3 +79,12 @@ module _ (largest generation request «data» : ℕ) where
       ◌≡◌ {A = Result ⊤ Refusal} (Ok tt) (refused_or (first_of (outside gives 13 ∷ over gives 14 ∷ [])) tt) → Within largest generation request «data»
   passed is_outside is_over told =
       let h = not_refused ((rw (is_outside, is_over) at (ok_is _ tt told).0)) in within h.0 h.1
+
+  -- a room made of its six counts is the definition's
+  pub room_made : (g w p d o h : OctetTimes) →
+      g.0 ≡ octets_of_bits generation → w.0 ≡ wire_time largest → p.0 ≡ octets_of_bits request → d.0 ≡ octets_of_bits «data» →
+      o.0 ≡ one_way largest generation request → h.0 ≡ o.0 + wire_time largest + octets_of_bits «data» →
+      ◌≡◌ {A = Kept}
+      (record { generation = g; wire = w; request = p; «data» = d; one_way = o; headroom = h })
+      (kept largest generation request «data»)
+  room_made g w p d o h eg ew ep ed eo eh = rw (eh, eg, ew, ep, ed, eo)

@@ -5,7 +5,7 @@ use mathlib.Core.Path.{◌≡◌, refl, sym, ap, ◌∙◌}
 use mathlib.Core.List.{List, [], ◌∷◌, ◌++◌}
 use native.Mathlib.Omega.{arith}
 use native.Mathlib.Nat.{zero-mul, min-eq_left, min-eq_right}
-use lib.ListN.{length, take, drop}
+use lib.ListN.{length, take, drop, length-append, length-take, length-drop}
 use lib.Seq.{drop-drop}
 use lib.Dec.{leb}
 use borrow.Author.Tests.{le-leb, lt-leb, leb-true, leb-false}
@@ -22,6 +22,23 @@ module _ (place : ℕ) (octets list : List ℕ) where
       written place octets list ≡ take place list ++ (octets ++ drop (place + length octets) list)
   unfolding written
   written_in fits = pick_yes _ _ (le-leb _ _ fits)
+
+  -- the length stays
+  length_by : (fits : Bool) → leb (place + length octets) (length list) ≡ fits → length (written place octets list) ≡ length list
+  length_by true test =
+      let fits : place + length octets ≤ length list = leb-true _ _ test in
+      ap length (written_in fits) ∙
+      omega (
+        arith,
+        length-append (take place list) (octets ++ drop (place + length octets) list),
+        length-take place list,
+        length-append octets (drop (place + length octets) list),
+        length-drop (place + length octets) list,
+      )
+  length_by false test = ap length (written_out (leb-false _ _ test))
+
+  pub written_length : length (written place octets list) ≡ length list
+  written_length = length_by _ refl
 
   -- octets copied into the part of their length that starts at the place
   pub written_part : place + length octets ≤ length list → (part : List ℕ) → part ≡ octets →

@@ -127,6 +127,13 @@ module _ (s : Settings) where
     unfolding keeping
     house_decides = sum_first ∙ pick_yes _ _ (eq-eqb _ _ (ok_is sum_refusal (kept_for s) told).0)
 
+    -- the whole of it: the house's number decides, and what is kept is the room
+    pub house_settles : settling s ≡ refused_or (house_refusal s) room
+    unfolding settling keeping
+    house_settles =
+        ap (λ (n : ℕ). refused_or n (kept_for s)) house_decides ∙
+        ap (λ (k : Kept). refused_or (house_refusal s) k) (sym (ok_is sum_refusal (kept_for s) told).1)
+
     pub settled_by_house : (refusal : Refusal) (answer : Result Kept Refusal) → IsErrAnd answer (λ e. e ≡ refusal) →
         ◌≡◌ {A = Result ⊤ Refusal} (Err refusal) (refused_or (house_refusal s) tt) → answer ≡ settling s
     unfolding settling

@@ -145,7 +145,7 @@ pub(crate) fn settings(rt: &HostRuntime, body: &[u8]) -> Result<(), Told> {
 }
 
 fn send<'a>(rt: &HostRuntime, control: &'a [u8], data: &'a [u8], due: bool) -> Result<(), Told> {
-    let number = sender::send_refusal(control).map_or(0, |refusal| refusal.number());
+    let number = refusals::number_told(sender::send_refusal(control));
     print::refusal(rt, b"sender ", number)?;
     print::part(rt, sender::to_send(control, data, due))
 }

@@ -9,8 +9,9 @@ use refusals::Refusal;
 use remarks::Told;
 use room_to_keep::Kept;
 
+// Words. All before them was written: a caller hands an Err on by `?` before it writes on.
 fn text(rt: &HostRuntime, words: &[u8]) -> Result<(), Told> {
-    console::output::write(rt, &mut rt.stdout(), b"vectors", words)
+    console::output::write(rt, &mut rt.stdout(), b"vectors", Ok(()), words)
 }
 
 // A word and a number after it.

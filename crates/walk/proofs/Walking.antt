@@ -1,18 +1,25 @@
--- A walk, octet time by octet time, equals all of it at once. Assumes nothing.
+-- A walk, octet time by octet time, equals all of it at once. Assumes, where it says so, that the head has its eight timers.
 use Prim.Native.Nat.{ℕ, ◌+◌, ◌-◌, ◌/◌, ◌%◌, ◌≤◌}
-use mathlib.Core.Path.{◌≡◌, refl, ap, ◌∙◌}
+use mathlib.Core.Path.{◌≡◌, refl, sym, ap, ◌∙◌}
 use mathlib.Core.Bool.{Bool, true, false}
 use native.Mathlib.Omega.{arith}
 use lib.Dec.{eqb}
+use lib.ListN.{length}
 use borrow.Author.Tests.{eqb-true, eqb-false}
 use Rattle.ground.specs.Pick.{pick}
 use Rattle.head.specs.declared.Head.{Head}
 use Rattle.head.specs.Timers.{after_quanta}
-use Rattle.head.proofs.Timers.{passed_twice}
+use Rattle.head.proofs.Timers.{passed_none, passed_twice}
+use Rattle.moments.specs.Moments.{Moment, due_by}
+use Rattle.walk.specs.Walk.{walked_on}
 use Rattle.walk.specs.Pacing.{head_at, paced_by, ticked}
 use Rattle.walk.specs.declared.Pace.{Pace}
+use Rattle.walk.specs.declared.Walk.{Walk}
 
--- a pace is its parts
+-- a walk, and a pace, are their parts
+abbrev pub walk_of : ℕ → Head → Moment → Walk
+walk_of clock head due = record { clock = record { 0 = clock }; head = head; due = due }
+
 abbrev pub pace_of : ℕ → Head → Pace
 pace_of clock head = record { clock = record { 0 = clock }; head = head }
 
@@ -47,3 +54,18 @@ module _ (pace : Pace) where
   pace_more i =
       let moment : clock + i + 1 ≡ clock + (i + 1) = omega arith in
       ap (pace_of (clock + i + 1)) (quantum_more pace.head clock (clock + i) (omega arith)) ∙ ap at moment
+
+  pub pace_none : length pace.head.timers ≡ 8 → pace ≡ paced_by pace 0
+  unfolding paced_by
+  pace_none long =
+      let moment : clock ≡ clock + 0 = omega arith in
+      let none : 0 ≡ clock / 64 - clock / 64 = omega arith in
+      ap (pace_of clock) (sym (passed_none pace.head long) ∙ ap (after_quanta pace.head) none) ∙ ap at moment
+
+-- the parts of a walk, once it was paced, are those of all of it at once
+pub walk_paced : (refresh due after : Moment) (clock n : ℕ) (head : Head) (end : Pace) → end ≡ paced_by (pace_of clock head) n →
+    after ≡ due_by refresh end.clock.0 due → walk_of end.clock.0 end.head after ≡ walked_on (walk_of clock head due) refresh n
+unfolding paced_by
+walk_paced refresh due after from n head end paced is_after =
+    ap (walk_of end.clock.0 end.head) is_after
+    ∙ ap (λ (p : Pace). walk_of p.clock.0 p.head (due_by refresh p.clock.0 due)) paced

@@ -57,6 +57,21 @@ module _ (word : List ℕ) (so_far i octet : ℕ) (r : Reading word so_far i) (h
   split : number_from so_far (octet ∷ drop (i + 1) word) ≡ number_from 0 word
   split = rw (is, add-one) (rw (drop-cons word i 0 h) at r.rest)
 
+  pub too_low : octet < zero' → Err NotANumber ≡ number_from 0 word
+  unfolding pick number_from
+  too_low low = simp (lt-ltb octet zero' low) at split
+
+  module _ (low : zero' ≤ octet) where
+    pub too_high : nine' < octet → Err NotANumber ≡ number_from 0 word
+    unfolding pick number_from
+    too_high high = simp (le-ltb octet zero' low, lt-ltb nine' octet high) at split
+
+    module _ (high : octet ≤ nine') where
+      pub too_large : largest64 < extended so_far octet → Err TooLarge ≡ number_from 0 word
+      unfolding pick number_from
+      too_large over =
+          simp (le-ltb octet zero' low, le-ltb nine' octet high, lt-ltb largest64 (extended so_far octet) over) at split
+
   pub next : zero' ≤ octet → octet ≤ nine' → extended so_far octet ≤ largest64 → Reading word (extended so_far octet) (i + 1)
   unfolding pick number_from
   next low high fits =

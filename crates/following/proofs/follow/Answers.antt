@@ -1,12 +1,11 @@
 -- Each record moves on along the run, a refused one stops it, and the end of the octets ends it. Assumes nothing.
-use Rattle.std.proofs.Common.{◌+◌, refl, sym, ap, subst, ◌∙◌, arith}
+use Rattle.std.proofs.Common.{ℕ, ◌+◌, refl, sym, ap, subst, ◌∙◌, arith}
 use Rattle.bench_memory.specs.Memory.{memory_of, Lent}
 use Rattle.bench_state.specs.declared.Bench.{Bench}
 use Rattle.bench_memory.proofs.Stepping.{step_lent}
-use Rattle.refusals.proofs.Refused.{ok_is, err_is, refusal_by}
+use Rattle.refusals.proofs.Refused.{ok_is, err_is}
 use Rattle.following.proofs.Following.{starts, ended, stopped, went_on}
-use Rattle.std.specs.Prelude.{Option}
-use Rattle.refusals.specs.declared.Refusal.{Refusal}
+use Rattle.refusals.specs.Refusals.{number_told}
 use Rattle.std.specs.Result.{result_err}
 use Rattle.reporting.specs.Reporting.{standing}
 use Rattle.following.proofs.follow.Goals as goal
@@ -34,10 +33,11 @@ returns-in_default c =
     let m = memory_of turn.bench turn.numbers turn.data_ends turn.data_slots turn.pfc_ends turn.pfc_slots in
     let told = c.in_default.ensures in
     let refusal = c.err.ensures.value ∙ ap result_err (c.step-answer.ensures.answer ∙ sym told.answer) in
+    let number = c.number_told.ensures ∙ ap number_told refusal ∙ told.number in
     stopped a.watch a.input.now turn.at turn.steps m turn.invariant.1 turn.invariant.2 turn.invariant.0 _ c.loop-at-test.true refl _ _
-    c.in_default.field-0 (err_is _ _ told.answer).0 (refusal_by _ _ told.answer) told.memory
+    (err_is _ _ told.answer).0 told.memory
     (c.report_of.ensures ∙
-    ap (λ (r : Option Refusal). standing a.watch.settings.enabled turn.bench c.step-answer.new.numbers turn.steps r (turn.steps + 1)) refusal)
+    ap (λ (n : ℕ). standing a.watch.settings.enabled turn.bench c.step-answer.new.numbers turn.steps n (turn.steps + 1)) number)
 
 pub loop-at-preserved : goal.loop-at-preserved
 loop-at-preserved c =
