@@ -14,7 +14,7 @@ use Rattle.ground.proofs.Pick.{pick_yes, pick_no}
 pub use Rattle.refusals.specs.Refusals.{refused_or, numbered_in}
 use Rattle.refusals.specs.declared.Refusal.{Refusal}
 use Rattle.refusals.specs.Refusals.{number}
-use Rattle.refusals.proofs.Refused.{err_is, none_by}
+use Rattle.refusals.proofs.Refused.{err_is, order_number, none_by}
 use Rattle.octets.specs.Numbers.{octet_at}
 use Rattle.room_to_keep.specs.declared.Kept.{Kept}
 use Rattle.settings.specs.Settings.{settling}
@@ -44,12 +44,18 @@ input_given kind size = first_given (input_order kind size) refl
 
 -- what a run answers by the input's refusal
 module _ (input : List ℕ) {given : ℕ} (is : given ≡ input_refusal (octet_at input 0) (length input)) where
-  pub run_refused : {refusal : Refusal} {report : Report} → Err refusal ≡ refused_or {A = ⊤} given tt → number refusal ≡ given →
-      report ≡ refused_report (number refusal) → report ≡ run_of input
+  -- a refusal has the number that the order gave
+  its_number : {refusal : Refusal} → Err refusal ≡ refused_or {A = ⊤} given tt → number refusal ≡ input_refusal (octet_at input 0) (length input)
+  unfolding input_refusal
+  its_number refused_by =
+      order_number (input_order (octet_at input 0) (length input)) tt _ (refused_by ∙ ap (λ (n : ℕ). refused_or n tt) is) refl
+
+  pub run_refused : {refusal : Refusal} {report : Report} → Err refusal ≡ refused_or {A = ⊤} given tt → report ≡ refused_report (number refusal) →
+      report ≡ run_of input
   unfolding run_of
-  run_refused refused_by its told =
+  run_refused refused_by told =
       let some = (err_is given tt refused_by).0 in
-      told ∙ ap refused_report (its ∙ is) ∙ sym (pick_no _ _ (ap (λ (k : ℕ). eqb k 0) (sym is) ∙ ne_eqb given 0 some))
+      told ∙ ap refused_report (its_number refused_by) ∙ sym (pick_no _ _ (ap (λ (k : ℕ). eqb k 0) (sym is) ∙ ne_eqb given 0 some))
 
   pub run_settled : {report : Report} {passed : ⊤} → Ok passed ≡ refused_or given tt → report ≡ settled_of input → report ≡ run_of input
   unfolding run_of

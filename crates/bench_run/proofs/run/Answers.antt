@@ -8,8 +8,7 @@ pub returns-in-Err : goal.returns-in-Err
 unfolding input_refusal
 returns-in-Err c =
     let input = c.args.input.now in
-    let told = c.in-Err.ensures in
-    run_refused input (ap (λ k. input_refusal k (length input)) c.octet_at.ensures) told.answer told.number
+    run_refused input (ap (λ k. input_refusal k (length input)) c.octet_at.ensures) c.in-Err.ensures.answer
     (c.refused_report.ensures ∙ ap refused_report c.number.ensures)
 
 pub settled-requires : goal.settled-requires
